@@ -1,0 +1,122 @@
+-- No rule is broken exactly where the speeds are a drive on time.
+use Rattle.std.proofs.Common.{ℕ, zero, suc, ◌≡◌, ◌<◌, ◌≤◌, ◌+◌, ◌-◌, ◌↔◌, Option, None, Some, List, length, get_or, refl, sym, subst, inl, inr, arith}
+use Rattle.std.specs.Prelude.{ℤ, pos, ◌≤ℤ◌, slice_index}
+use Rattle.std.proofs.lemmas.Int.{ints}
+use Rattle.std.proofs.lemmas.Bool.{cases_eq, cases_lt}
+use Rattle.std.proofs.lemmas.Bool.Decides.{nat_tests}
+use Rattle.std.proofs.lemmas.List.{get_or_past, get_or_default}
+use Rattle.rail_specs.specs.Rules.{Rules, IsDrive, IsStepKept, IsPassed}
+use Rattle.rail_specs.specs.Times.{IsOnTimeUp, time_up}
+use Rattle.rail_specs.specs.Rules.{no_timing}
+use Rattle.drive_rules.specs.Shaped.{IsShaped}
+use Rattle.drive_rules.specs.Verdict.{first_below, first_of, point_fault, step_fault, timing_fault, verdict, Moves, IsKept, Judges}
+use Rattle.drive_rules.specs.declared.judge.Judged.{Judged}
+use Rattle.drive_rules.specs.declared.judge.Judged.TheVariants.{Kept, Broken}
+
+first_of-none : {X : Type 0} (a b : Option X) → first_of a b ≡ None → (a ≡ None) × (b ≡ None)
+first_of-none None b h = (refl, h)
+first_of-none (Some x) b h = cc
+
+pub first_below-none : {X : Type 0} (f : ℕ → Option X) (n : ℕ) → first_below f n ≡ None → (i : ℕ) → i < n → f i ≡ None
+first_below-none f zero h i l = absurd (omega arith)
+first_below-none f (suc n) h i l =
+    let p = first_of-none (first_below f n) (f n) h in
+    elim (cases_eq i n) [
+      | inl same ↦ subst (λ (j : ℕ). f j ≡ None) (sym same) p.1
+      | inr apart ↦ first_below-none f n p.0 i (omega arith)
+    ]
+
+pub none-first_below : {X : Type 0} (f : ℕ → Option X) (n : ℕ) → ((i : ℕ) → i < n → f i ≡ None) → first_below f n ≡ None
+none-first_below f zero h = refl
+none-first_below f (suc n) h = rw (none-first_below f n (λ i l. h i (omega arith))) (h n (omega arith))
+
+-- a point's rule
+pub record PointKept (r : Rules) (k v : ℕ) : Type 0 where
+  pub start : k ≡ 0 → v ≡ r.start
+  pub later : 1 ≤ k → IsPassed r k v
+
+pub point_kept : (r : Rules) (speeds : List ℕ) (k : ℕ) → point_fault r speeds k ≡ None → PointKept r k (slice_index speeds k)
+point_kept r speeds k h = grind (arith, nat_tests)
+
+pub kept_point : (r : Rules) (speeds : List ℕ) (k : ℕ) → PointKept r k (slice_index speeds k) → point_fault r speeds k ≡ None
+kept_point r speeds k h = grind (arith, nat_tests)
+
+pub step_kept : (r : Rules) (speeds : List ℕ) (i : ℕ) → step_fault r speeds i ≡ None → IsStepKept r i (slice_index speeds i) (slice_index speeds (i + 1))
+step_kept r speeds i h = grind (arith, nat_tests, ints)
+
+pub kept_step : (r : Rules) (speeds : List ℕ) (i : ℕ) → IsStepKept r i (slice_index speeds i) (slice_index speeds (i + 1)) → step_fault r speeds i ≡ None
+kept_step r speeds i h = grind (arith, nat_tests, ints)
+
+-- a timing point
+timing_kept : (r : Rules) (speeds : List ℕ) (j : ℕ) → timing_fault r speeds j ≡ None → pos (time_up r speeds (get_or r.timings j no_timing).point) ≤ℤ (get_or r.timings j no_timing).latest
+timing_kept r speeds j h = grind (arith, ints)
+
+pub timely : (r : Rules) (speeds : List ℕ) → first_below (timing_fault r speeds) (length r.timings) ≡ None → IsOnTimeUp r speeds
+timely r speeds h j d l =
+    let e = first_below-none (timing_fault r speeds) (length r.timings) h j l in
+    rw (get_or_default r.timings j d no_timing l) (timing_kept r speeds j e)
+
+pub kept_timing : (r : Rules) (speeds : List ℕ) (j : ℕ) → j < length r.timings → IsOnTimeUp r speeds → timing_fault r speeds j ≡ None
+kept_timing r speeds j l t = let h = t j no_timing l in grind (arith, ints)
+
+-- nothing is broken, part by part
+pub record NoneBroken (r : Rules) (speeds : List ℕ) : Type 0 where
+  pub count : length speeds ≡ length r.steps + 1
+  pub points : first_below (point_fault r speeds) (length speeds) ≡ None
+  pub steps : first_below (step_fault r speeds) (length r.steps) ≡ None
+  pub timings : first_below (timing_fault r speeds) (length r.timings) ≡ None
+
+pub none_broken : (r : Rules) (speeds : List ℕ) → verdict r speeds ≡ None → NoneBroken r speeds
+none_broken r speeds h = grind (arith, nat_tests)
+
+pub verdict-none : (r : Rules) (speeds : List ℕ) → NoneBroken r speeds → verdict r speeds ≡ None
+verdict-none r speeds h = grind (arith, nat_tests)
+
+pub drive_from_none : (r : Rules) (speeds : List ℕ) → verdict r speeds ≡ None → IsDrive r speeds × IsOnTimeUp r speeds
+drive_from_none r speeds v =
+    let h = none_broken r speeds v in
+    let points = first_below-none (point_fault r speeds) (length speeds) h.points in
+    let steps = first_below-none (step_fault r speeds) (length r.steps) h.steps in (
+      record {
+        count = h.count;
+        start = (point_kept r speeds 0 (points 0 (omega (arith, h.count)))).start refl;
+        points = λ k l m. (point_kept r speeds k (points k m)).later l;
+        steps = λ i l. step_kept r speeds i (steps i l);
+      },
+      timely r speeds h.timings,
+    )
+
+pub none_from_drive : (r : Rules) (speeds : List ℕ) → IsDrive r speeds → IsOnTimeUp r speeds → verdict r speeds ≡ None
+none_from_drive r speeds d t = verdict-none r speeds record {
+  count = d.count;
+  points = none-first_below (point_fault r speeds) (length speeds) (λ k l. kept_point r speeds k record {
+    start = λ e. rw e d.start;
+    later = λ p. d.points k p l;
+  });
+  steps = none-first_below (step_fault r speeds) (length r.steps) (λ i l. kept_step r speeds i (d.steps i l));
+  timings = none-first_below (timing_fault r speeds) (length r.timings) (λ j l. kept_timing r speeds j l t);
+}
+
+pub kept_exactly : (r : Rules) (speeds : List ℕ) (cost : ℤ) (j : Judged) → Judges j (verdict r speeds) cost → IsKept j ↔ (IsDrive r speeds × IsOnTimeUp r speeds)
+kept_exactly r speeds cost (Kept total) h = (λ _. drive_from_none r speeds h.0, λ _. tt)
+kept_exactly r speeds cost (Broken rule place) h = (λ b. absurd b, λ d. let e = none_from_drive r speeds d.0 d.1 in cc)
+
+pub moves_from_points : (r : Rules) (speeds : List ℕ) → IsShaped r → length speeds ≡ length r.steps + 1 → first_below (point_fault r speeds) (length speeds) ≡ None → Moves r speeds
+moves_from_points r speeds s c h i l =
+    let points = first_below-none (point_fault r speeds) (length speeds) h in
+    let a = point_kept r speeds i (points i (omega (arith, c))) in
+    let b = point_kept r speeds (i + 1) (points (i + 1) (omega (arith, c))) in
+    s.moving i (slice_index speeds i) (slice_index speeds (i + 1)) l a.start a.later (b.later (omega arith))
+
+pub slow_from_steps : (r : Rules) (speeds : List ℕ) → IsShaped r → length speeds ≡ length r.steps + 1 → first_below (step_fault r speeds) (length r.steps) ≡ None → (k : ℕ) → slice_index speeds k ≤ 12000
+slow_from_steps r speeds s c h k =
+    let steps = first_below-none (step_fault r speeds) (length r.steps) h in
+    elim (cases_lt k (length r.steps)) [
+      | inl l ↦ omega (arith, (step_kept r speeds k (steps k l)).top.0, s.top)
+      | inr l ↦ elim (cases_eq k (length r.steps)) [
+        | inl e ↦ (let b : length r.steps - 1 < length r.steps = omega (arith, s.some) in
+            let f : k ≡ length r.steps - 1 + 1 = omega (arith, s.some) in
+            rw f (omega (arith, (step_kept r speeds (length r.steps - 1) (steps (length r.steps - 1) b)).top.1, s.top)))
+        | inr n ↦ rw (get_or_past speeds k 0 (omega (arith, c))) (omega arith)
+      ]
+    ]

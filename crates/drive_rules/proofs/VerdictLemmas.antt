@@ -1,0 +1,27 @@
+-- How a search goes on.
+use Rattle.std.proofs.Common.{ℕ, zero, suc, ◌≡◌, ◌<◌, ◌+◌, Option, None, Some, refl, subst, inl, inr, arith, add-one}
+use Rattle.std.proofs.lemmas.Bool.{cases_eq}
+use Rattle.std.specs.Prelude.{ℤ, ◌+ℤ◌}
+use Rattle.rail_specs.specs.Times.{sum_below}
+use Rattle.rail_specs.specs.Cost.{int_sum_below}
+use Rattle.drive_rules.specs.Verdict.{first_below, first_of}
+
+pub first_below-next : {X : Type 0} (f : ℕ → Option X) (n : ℕ) → first_below f (n + 1) ≡ first_of (first_below f n) (f n)
+first_below-next f n = rw (add-one n) refl
+
+pub first_below-found : {X : Type 0} (f : ℕ → Option X) (i n : ℕ) (x : X) → first_below f i ≡ None → f i ≡ Some x → i < n → first_below f n ≡ Some x
+first_below-found f i zero x h e l = absurd (omega arith)
+first_below-found f i (suc n) x h e l = elim (cases_eq i n) [
+  | inl same ↦ rw (subst (λ (j : ℕ). first_below f j ≡ None) same h) (subst (λ (j : ℕ). f j ≡ Some x) same e)
+  | inr apart ↦ rw (first_below-found f i n x h e (omega arith)) refl
+]
+
+pub ruleset firsts = (first_below-next, first_below-found)
+
+pub sum_below-next : (f : ℕ → ℕ) (n : ℕ) → sum_below f (n + 1) ≡ sum_below f n + f n
+sum_below-next f n = rw (add-one n) refl
+
+pub int_sum_below-next : (f : ℕ → ℤ) (n : ℕ) → int_sum_below f (n + 1) ≡ int_sum_below f n +ℤ f n
+int_sum_below-next f n = rw (add-one n) refl
+
+pub ruleset sums = (sum_below-next, int_sum_below-next)

@@ -1,0 +1,69 @@
+-- The first rule that a list of speeds breaks.
+use Rattle.std.specs.Prelude.{ℕ, suc, zero, ◌+◌, ◌≡◌, ◌<◌, ◌≤◌, ℤ, pos, neg_ℤ, List, length, slice_index, slice_index_or, Option, Some, None, ◌==◌, nat_lt, if◌then◌else◌, ◌||◌}
+use Rattle.std.specs.Int.RustNames.{int_lt}
+use Rattle.std.specs.Option.{option_map}
+use Rattle.rail_specs.specs.Rules.{Rules, is_stop, step_at, traction_work, brake_work}
+use Rattle.rail_specs.specs.Times.{time_up}
+use Rattle.rail_specs.specs.Step.{work}
+use Rattle.rail_specs.specs.Rules.{no_timing}
+use Rattle.drive_rules.specs.declared.judge.Rule.{Rule}
+use Rattle.drive_rules.specs.declared.judge.Rule.TheVariants.{Length, Start, Stop, Standing, Limit, Top, Traction, Brake, Late}
+use Rattle.drive_rules.specs.declared.judge.Judged.{Judged}
+use Rattle.drive_rules.specs.declared.judge.Judged.TheVariants.{Kept, Broken}
+
+-- the first of two
+abbrev pub first_of : {X : Type 0} → Option X → Option X → Option X
+first_of (Some x) o = Some x
+first_of None o = o
+
+-- the first among f 0 .. f (n - 1)
+abbrev pub first_below : {X : Type 0} → (ℕ → Option X) → ℕ → Option X
+first_below f zero = None
+first_below f (suc n) = first_of (first_below f n) (f n)
+
+-- the rule that speed v breaks at point k
+abbrev pub point_rule : Rules → ℕ → ℕ → Option Rule
+point_rule r k v =
+    if k == 0 then (if v == r.start then None else Some Start)
+    else if is_stop r k then (if v == 0 then None else Some Stop)
+    else if v == 0 then Some Standing else None
+
+-- the first rule that step i breaks from v0 to v1
+abbrev pub step_rule : Rules → ℕ → ℕ → ℕ → Option Rule
+step_rule r i v0 v1 =
+    if nat_lt (slice_index r.limits i) v0 || nat_lt (slice_index r.limits i) v1 then Some Limit
+    else if nat_lt r.top v0 || nat_lt r.top v1 then Some Top
+    else if int_lt (pos (traction_work r i v1)) (work (step_at r i) v0 v1) then Some Traction
+    else if int_lt (work (step_at r i) v0 v1) (neg_ℤ (pos (brake_work r i v0))) then Some Brake else None
+
+abbrev pub point_fault : Rules → List ℕ → ℕ → Option (Rule × ℕ)
+point_fault r speeds k = option_map (λ rule. (rule, k)) (point_rule r k (slice_index speeds k))
+
+abbrev pub step_fault : Rules → List ℕ → ℕ → Option (Rule × ℕ)
+step_fault r speeds i = option_map (λ rule. (rule, i)) (step_rule r i (slice_index speeds i) (slice_index speeds (i + 1)))
+
+abbrev pub timing_fault : Rules → List ℕ → ℕ → Option (Rule × ℕ)
+timing_fault r speeds j =
+    let t = slice_index_or r.timings j no_timing in
+    if int_lt t.latest (pos (time_up r speeds t.point)) then Some (Late, t.point) else None
+
+-- the first rule that the speeds break, and where
+abbrev pub verdict : Rules → List ℕ → Option (Rule × ℕ)
+verdict r speeds =
+    if length speeds == length r.steps + 1 then
+    first_of (first_below (point_fault r speeds) (length speeds))
+    (first_of (first_below (step_fault r speeds) (length r.steps)) (first_below (timing_fault r speeds) (length r.timings)))
+    else Some (Length, 0)
+
+-- no step begins and ends at a standstill
+abbrev pub Moves : Rules → List ℕ → Type 0
+Moves r speeds = (i : ℕ) → i < length r.steps → 1 ≤ slice_index speeds i + slice_index speeds (i + 1)
+
+abbrev pub IsKept : Judged → Type 0
+IsKept (Kept total) = Unit {0}
+IsKept (Broken rule place) = ⊥
+
+-- a drive on time with its cost, or the first broken rule
+abbrev pub Judges : Judged → Option (Rule × ℕ) → ℤ → Type 0
+Judges (Kept total) first cost = (first ≡ None) × (total ≡ cost)
+Judges (Broken rule place) first cost = first ≡ Some (rule, place)

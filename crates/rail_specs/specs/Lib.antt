@@ -1,0 +1,6 @@
+pub mod Step
+pub mod Table
+pub mod Rules
+pub mod Times
+pub mod Cost
+pub mod Faults

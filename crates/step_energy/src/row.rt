@@ -1,0 +1,128 @@
+//! One step's numbers, ready for its work.
+ghost use Rattle.std.specs.Prelude.{◌≡◌, ℕ, ◌+◌, ◌*◌, ◌^◌, ◌<◌, ◌≤◌, ◌↔◌, ℤ, pos, ◌-ℤ◌, ◌≤ℤ◌, IfOk, IsErr};
+ghost use Rattle.std.specs.Int.RustNames.{unsigned_abs};
+ghost use Rattle.rail_specs.specs.Step.{work, work_up, work_down, gradient_work, IsInRange, HasSmallDrag};
+
+use crate::counter::Steps;
+use rail_specs::StepNumbers;
+use std::marker::Model;
+use std::sync::ledger::Ledger;
+
+/// The drag over the step is not below its kinetic energy.
+#[derive(Clone, Copy, Debug)]
+pub struct DragTooGreat;
+
+/// A step's numbers with the coefficients of its work: `up` is `rise * v * v + slope * v + base`, `down` is `fall * v * v`.
+#[derive(Clone, Copy)]
+pub struct StepRow {
+    numbers: StepNumbers,
+    rise: u64,
+    slope: u64,
+    base: i64,
+    fall: u64,
+}
+
+impl Model for StepRow {
+    ghost use Rattle.rail_specs.specs.declared.StepNumbers.{StepNumbers};
+
+    ghost Value = { StepNumbers };
+
+    ghost use Rattle.step_energy.specs.Row.{IsRow, row_of, row_of-numbers};
+
+    ghost view = { λ r. r.numbers };
+
+    ghost invariant = { IsRow };
+
+    ghost inverse = { row_of };
+
+    ghost inverse_ok = { row_of-numbers };
+}
+
+/// The work against the gradient.
+fn climb(numbers: &StepNumbers) -> i64
+    requires { IsInRange numbers.now }
+    ensures value { result ≡ gradient_work numbers.now }
+    ensures small { unsigned_abs result ≤ 19620000000000000 }
+{
+    (196_200 * numbers.mass as u64 * numbers.metres as u64) as i64 * numbers.gradient as i64
+}
+
+impl StepRow {
+    /// The row of a step. It counts one step.
+    pub fn make<L: Ledger>(
+        numbers: StepNumbers,
+        steps: &mut Steps<L>,
+    ) -> Result<StepRow, DragTooGreat>
+        requires { IsInRange numbers }
+        ensures made { IfOk result (λ row. row ≡ numbers) }
+        ensures refused { IsErr result ↔ (10000 * numbers.inertia ≤ numbers.c * numbers.metres) }
+        ensures counted { steps.new ≡ steps.old + 1 }
+    {
+        steps.tick();
+        let metres = numbers.metres as u64;
+        let drag = numbers.c as u64 * metres;
+        let inertia = 10_000 * numbers.inertia as u64;
+        if inertia <= drag {
+            return Err(DragTooGreat);
+        }
+        let gradient_work = climb(&numbers);
+        Ok(StepRow {
+            numbers,
+            rise: inertia + drag,
+            slope: 2000 * numbers.b as u64 * metres,
+            base: gradient_work + (2_000_000 * numbers.a as u64 * metres) as i64,
+            fall: inertia - drag,
+        })
+    }
+
+    /// The part of the work that the exit speed decides.
+    pub fn up(&self, v1: u16) -> i128
+        requires { v1 ≤ 12001 }
+        ensures value { result ≡ work_up self.now v1 }
+        ensures small { unsigned_abs result ≤ 625297602400000000 }
+    {
+        let v = v1 as u64;
+        (self.base + (self.rise * (v * v) + self.slope * v) as i64) as i128
+    }
+
+    /// The part of the work that the entry speed pays.
+    pub fn down(&self, v0: u16) -> i128
+        requires { v0 ≤ 12001 }
+        ensures value { result ≡ pos (work_down self.now v0) }
+        ensures small { unsigned_abs result ≤ 172828801200000000 }
+    {
+        let v = v0 as u64;
+        (self.fall * (v * v)) as i128
+    }
+
+    /// The work from speed v0 to speed v1.
+    pub fn work(&self, v0: u16, v1: u16) -> i128
+        requires entry { v0 ≤ 12001 }
+        requires exit { v1 ≤ 12001 }
+        ensures value { result ≡ work self.now v0 v1 }
+        ensures small { unsigned_abs result < 2 ^ 62 }
+    {
+        let _ = &self.numbers;
+        self.up(v1) - self.down(v0)
+    }
+
+    /// Both parts of the work rise with speed, and the work is their difference.
+    #[tactic(auto, using(rail_specs::proofs::WorkLemmas::work_parts, rail_specs::proofs::WorkLemmas::work_up_rises, rail_specs::proofs::WorkLemmas::work_down_rises))]
+    pub fn laws(&self)
+        ensures in_range { IsInRange self.now }
+        ensures small_drag { HasSmallDrag self.now }
+        ensures parts { (v0 v1 : ℕ) → work self.now v0 v1 ≡ work_up self.now v1 -ℤ pos (work_down self.now v0) }
+        ensures up_rises { (v w : ℕ) → v ≤ w → work_up self.now v ≤ℤ work_up self.now w }
+        ensures down_rises { (v w : ℕ) → v ≤ w → work_down self.now v ≤ work_down self.now w }
+    {
+        let _ = &self.numbers;
+    }
+
+    pub fn metres(&self) -> u16
+        ensures value { result ≡ self.now.metres }
+        ensures some { 1 ≤ result }
+        ensures few { result ≤ 1000 }
+    {
+        self.numbers.metres
+    }
+}
