@@ -4,3 +4,6 @@ pub mod Rules
 pub mod Times
 pub mod Cost
 pub mod Faults
+pub mod Report
+pub mod Plan
+pub mod Words
