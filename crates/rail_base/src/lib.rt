@@ -2,5 +2,7 @@
 #![tactic(auto)]
 
 pub mod cost;
+pub mod gap;
 
 pub use cost::{StepCost, Traction};
+pub use gap::is_gap_met;
