@@ -1,10 +1,14 @@
-//! What work costs.
+//! What work costs, and numbers as texts.
 #![tactic(auto)]
+
+pub mod number;
 
 ghost use Rattle.std.specs.Prelude.{◌≡◌, ℕ, ◌≤◌, ◌^◌, ℤ, pos, negsuc, ◌≤ℤ◌, neg_ℤ};
 ghost use Rattle.std.specs.Int.{int_max};
 ghost use Rattle.std.specs.Int.RustNames.{unsigned_abs};
 ghost use Rattle.rail_specs.specs.Cost.{Grows, StaysWithin};
+
+pub use number::{put_number, read_count, read_digits, read_field, read_number, trim_spaces};
 
 /// A cost of a step's work.
 pub trait StepCost {

@@ -4,3 +4,4 @@ pub mod Rules
 pub mod Times
 pub mod Cost
 pub mod Faults
+pub mod Numbers
