@@ -1,8 +1,10 @@
-//! What every crate of the product stands on: the cost of work.
+//! What every crate of the product stands on: numbers as texts, the cost of work, and the test of a gap.
 #![tactic(auto)]
 
 pub mod cost;
 pub mod gap;
+pub mod number;
 
 pub use cost::{StepCost, Traction};
 pub use gap::is_gap_met;
+pub use number::{put_number, read_count, read_digits, read_field, read_number, trim_spaces};

@@ -3,6 +3,7 @@ pub mod Table
 pub mod Rules
 pub mod Times
 pub mod Cost
+pub mod Numbers
 pub mod Faults
 pub mod Report
 pub mod Plan
