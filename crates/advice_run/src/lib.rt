@@ -1,0 +1,9 @@
+//! The whole program but for its `main`: words in, a text and a status out.
+#![tactic(auto)]
+
+mod answer;
+mod program;
+mod words;
+
+pub use program::run;
+pub use words::Words;
