@@ -107,7 +107,7 @@ impl Rules {
 
     /// The time at point `to`, given that at point `from`.
     #[tactic(auto, using(crate::proofs::VerdictLemmas::sums))]
-    fn time_at(&self, speeds: &[u16], from: usize, time: u64, to: usize) -> u64
+    pub(crate) fn time_at(&self, speeds: &[u16], from: usize, time: u64, to: usize) -> u64
         requires count { length speeds.now ≡ length self.now.steps + 1 }
         requires moving { Moves self.now speeds.now }
         requires forward { from ≤ to }
