@@ -1,6 +1,5 @@
 -- How large the parts of a step's work are.
 use Rattle.std.proofs.Common.{ℕ, ◌+◌, ◌-◌, ◌*◌, ◌<◌, ◌≤◌, ◌≡◌, ◌^◌, arith, w16, w64, to_z, of_z, FitsSigned}
-use mir.Syntax.{w128}
 use Rattle.std.specs.Prelude.{ℤ, pos, ◌+ℤ◌, ◌-ℤ◌, ◌*ℤ◌}
 use Rattle.std.specs.Int.RustNames.{unsigned_abs}
 use Rattle.std.proofs.lemmas.Int.{ints, unsigned_abs-mul}
@@ -56,11 +55,14 @@ pub climb_code_is : (n : StepNumbers) → IsInRange n →
     to_z w64 (196200 * n.mass * n.metres) *ℤ to_z w64 (of_z w64 (to_z w16 (of_z w16 n.gradient))) ≡ gradient_work n
 climb_code_is n r = climb_casts (196200 * n.mass * n.metres) n.gradient (omega (arith, climb_factor_bound n r)) (omega (arith, ints, r.gradient.0, r.gradient.1))
 
-pub signed_sum_is : (b : ℤ) (k : ℕ) → unsigned_abs b ≤ 2 ^ 61 → k ≤ 2 ^ 61 → to_z w128 (of_z w128 (to_z w64 (of_z w64 (to_z w64 (of_z w64 b) +ℤ to_z w64 k)))) ≡ b +ℤ pos k
+pub signed_sum_is : (b : ℤ) (k : ℕ) → unsigned_abs b ≤ 2 ^ 61 → k ≤ 2 ^ 61 → to_z w64 (of_z w64 (to_z w64 (of_z w64 b) +ℤ to_z w64 k)) ≡ b +ℤ pos k
 signed_sum_is b k h g = omega (arith, ints)
+
+pub signed_is : (k : ℕ) → k < 2 ^ 63 → to_z w64 k ≡ pos k
+signed_is k h = omega (arith, ints)
 
 pub climb_fits : (n : StepNumbers) → IsInRange n → FitsSigned w64 (gradient_work n)
 climb_fits n r = let h = climb_bound n r in omega (arith, ints)
 
-pub wide_difference_is : (a b : ℤ) → unsigned_abs a ≤ 2 ^ 61 → unsigned_abs b ≤ 2 ^ 61 → to_z w128 (of_z w128 (to_z w128 (of_z w128 a) -ℤ to_z w128 (of_z w128 b))) ≡ a -ℤ b
-wide_difference_is a b h g = omega (arith, ints)
+pub difference_is : (a b : ℤ) → unsigned_abs a ≤ 2 ^ 61 → unsigned_abs b ≤ 2 ^ 61 → to_z w64 (of_z w64 (to_z w64 (of_z w64 a) -ℤ to_z w64 (of_z w64 b))) ≡ a -ℤ b
+difference_is a b h g = omega (arith, ints)

@@ -13,6 +13,7 @@ row_of n = record {
   slope = 2000 * n.b * n.metres;
   base = gradient_work n +ℤ pos (2000000 * n.a * n.metres);
   fall = 10000 * n.inertia - n.c * n.metres;
+  unit = 2000000 * n.metres;
 }
 
 -- a row in range, with the coefficients of its numbers
@@ -24,6 +25,7 @@ pub record IsRow (r : Inside) : Type 0 where
   pub base : gradient_work r.numbers +ℤ pos (2000000 * r.numbers.a * r.numbers.metres) ≡ r.base
   pub base_small : unsigned_abs r.base ≤ 39620000000000000
   pub fall : 10000 * r.numbers.inertia - r.numbers.c * r.numbers.metres ≡ r.fall
+  pub unit : 2000000 * r.numbers.metres ≡ r.unit
 
 pub row_of-numbers : (r : Inside) → IsRow r → row_of r.numbers ≡ r
-row_of-numbers r h = λ i. record { numbers = r.numbers; rise = h.rise i; slope = h.slope i; base = h.base i; fall = h.fall i }
+row_of-numbers r h = λ i. record { numbers = r.numbers; rise = h.rise i; slope = h.slope i; base = h.base i; fall = h.fall i; unit = h.unit i }

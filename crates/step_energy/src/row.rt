@@ -8,18 +8,25 @@ use rail_specs::StepNumbers;
 use std::marker::Model;
 use std::sync::ledger::Ledger;
 
-/// The drag over the step is not below its kinetic energy.
+/// The drag `C v^2` over the step isn't below the kinetic energy, so that more speed at the entry would ask for more work.
 #[derive(Clone, Copy, Debug)]
 pub struct DragTooGreat;
 
-/// A step's numbers with the coefficients of its work: `up` is `rise * v * v + slope * v + base`, `down` is `fall * v * v`.
+/// One step of a line, ready for its work.
+///
+/// Contracts see it as the step's numbers. Beside these it keeps the products that no speed changes, so that the work of
+/// a step takes four multiplications of 64 bits.
 #[derive(Clone, Copy)]
 pub struct StepRow {
     numbers: StepNumbers,
+    /// The exit speed's part of the work is `(rise * v1 + slope) * v1 + base`.
     rise: u64,
     slope: u64,
     base: i64,
+    /// The entry speed's part of the work is `fall * v0 * v0`.
     fall: u64,
+    /// The work of a force of 1 N over the step.
+    unit: u64,
 }
 
 impl Model for StepRow {
@@ -72,38 +79,76 @@ impl StepRow {
             slope: 2000 * numbers.b as u64 * metres,
             base: gradient_work + (2_000_000 * numbers.a as u64 * metres) as i64,
             fall: inertia - drag,
+            unit: 2_000_000 * metres,
         })
     }
 
-    /// The part of the work that the exit speed decides.
+    /// The part of the work that the exit speed decides, in 0.5 microjoule.
     pub fn up(&self, v1: u16) -> i128
         requires { v1 ≤ 12001 }
         ensures value { result ≡ work_up self.now v1 }
         ensures small { unsigned_abs result ≤ 625297602400000000 }
     {
-        let v = v1 as u64;
-        (self.base + (self.rise * (v * v) + self.slope * v) as i64) as i128
+        self.exit_part(v1) as i128
     }
 
-    /// The part of the work that the entry speed pays.
+    /// The part of the work that the entry speed pays, in 0.5 microjoule.
     pub fn down(&self, v0: u16) -> i128
         requires { v0 ≤ 12001 }
         ensures value { result ≡ pos (work_down self.now v0) }
         ensures small { unsigned_abs result ≤ 172828801200000000 }
     {
-        let v = v0 as u64;
-        (self.fall * (v * v)) as i128
+        self.entry_part(v0) as i128
     }
 
-    /// The work from speed v0 to speed v1.
+    /// The work from speed v0 to speed v1, in 0.5 microjoule.
     pub fn work(&self, v0: u16, v1: u16) -> i128
         requires entry { v0 ≤ 12001 }
         requires exit { v1 ≤ 12001 }
         ensures value { result ≡ work self.now v0 v1 }
         ensures small { unsigned_abs result < 2 ^ 62 }
     {
+        self.short_work(v0, v1) as i128
+    }
+
+    /// The work from speed v0 to speed v1 in 64 bits, which it always fits: what inner loops compare and add.
+    pub fn short_work(&self, v0: u16, v1: u16) -> i64
+        requires entry { v0 ≤ 12001 }
+        requires exit { v1 ≤ 12001 }
+        ensures value { result ≡ work self.now v0 v1 }
+        ensures small { unsigned_abs result < 2 ^ 62 }
+    {
         let _ = &self.numbers;
-        self.up(v1) - self.down(v0)
+        self.exit_part(v1) - self.entry_part(v0)
+    }
+
+    /// The work that a constant force does over the step, in 0.5 microjoule. The force is in N.
+    pub fn force_work(&self, force: u32) -> i64
+        requires { force ≤ 2000000 }
+        ensures value { result ≡ pos (2000000 * self.now.metres * force) }
+        ensures small { unsigned_abs result ≤ 4000000000000000 }
+    {
+        (self.unit * force as u64) as i64
+    }
+
+    /// `up` in 64 bits.
+    fn exit_part(&self, v1: u16) -> i64
+        requires { v1 ≤ 12001 }
+        ensures value { result ≡ work_up self.now v1 }
+        ensures small { unsigned_abs result ≤ 625297602400000000 }
+    {
+        let v = v1 as u64;
+        self.base + ((self.rise * v + self.slope) * v) as i64
+    }
+
+    /// `down` in 64 bits.
+    fn entry_part(&self, v0: u16) -> i64
+        requires { v0 ≤ 12001 }
+        ensures value { result ≡ pos (work_down self.now v0) }
+        ensures small { unsigned_abs result ≤ 172828801200000000 }
+    {
+        let v = v0 as u64;
+        (self.fall * (v * v)) as i64
     }
 
     /// Both parts of the work rise with speed, and the work is their difference.
