@@ -1,17 +1,17 @@
--- The rules that the fields hold.
+-- The rules that the parts stand for.
 use Rattle.rail_specs.specs.Rules.{Rules}
-use Rattle.drive_rules.specs.declared.rules.Rules.TheInside.{Inside}
+use Rattle.drive_rules.specs.declared.parts.Parts.{Parts}
 
-abbrev pub rules_of : Inside → Rules
-rules_of r = record {
-  start = r.start;
-  top = r.top;
-  traction = r.traction;
-  brake = r.brake;
-  steps = r.rows.items;
-  limits = r.limits.items;
-  places = r.places.items;
-  stops = r.stops.items;
-  dwells = r.dwells.items;
-  timings = r.timings.items;
+abbrev pub rules_of : Parts → Rules
+rules_of p = record {
+  start = p.start;
+  top = p.top;
+  traction = p.traction;
+  brake = p.brake;
+  steps = p.rows.items;
+  limits = p.limits.items;
+  places = p.places.items;
+  stops = p.stops.items;
+  dwells = p.dwells.items;
+  timings = p.timings.items;
 }

@@ -1,5 +1,5 @@
 -- The times of a drive, and what on time and late mean.
-use Rattle.std.specs.Prelude.{ℕ, suc, zero, ◌+◌, ◌<◌, ◌≤◌, ℤ, pos, ◌≤ℤ◌, ◌<ℤ◌, List, length, slice_index, All}
+use Rattle.std.specs.Prelude.{ℕ, suc, zero, ◌+◌, ◌<◌, ◌≤◌, ℤ, pos, ◌-ℤ◌, ◌≤ℤ◌, ◌<ℤ◌, List, length, slice_index, All}
 use Rattle.rail_specs.specs.Step.{lower_time, upper_time}
 use Rattle.rail_specs.specs.Rules.{Rules, step_at, timing_at, IsDrive}
 
@@ -18,6 +18,15 @@ time_up r speeds k =
 abbrev pub time_down : Rules → List ℕ → ℕ → ℕ
 time_down r speeds k =
     sum_below (λ i. slice_index r.dwells i + lower_time (step_at r i).metres (slice_index speeds i) (slice_index speeds (i + 1))) k
+
+-- the ms that the train stands at the points before point k (the rules have no dwell at point 0)
+abbrev pub standing_before : Rules → ℕ → ℕ
+standing_before r k = sum_below (λ i. slice_index r.dwells i) k
+
+-- what is left for driving of the latest time of the timing point of index j, in ms: the latest time minus the dwells
+-- at the points before the timing point
+abbrev pub slack_of : Rules → ℕ → ℤ
+slack_of r j = (timing_at r j).latest -ℤ pos (standing_before r (timing_at r j).point)
 
 -- at each timing point the time, rounded up, is at most the latest time
 abbrev pub IsOnTimeUp : Rules → List ℕ → Type 0
