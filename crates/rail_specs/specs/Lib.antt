@@ -5,3 +5,6 @@ pub mod Times
 pub mod Cost
 pub mod Faults
 pub mod Numbers
+pub mod First
+pub mod Lines
+pub mod Route
