@@ -3,7 +3,10 @@ pub mod Table
 pub mod Rules
 pub mod Times
 pub mod Cost
+pub mod First
 pub mod Numbers
+pub mod Lines
+pub mod Route
 pub mod Faults
 pub mod Report
 pub mod Plan

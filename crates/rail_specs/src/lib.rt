@@ -4,6 +4,8 @@
 //! data that they speak of.
 #![tactic(auto)]
 
+use std::alloc::AllocError;
+
 /// What the work of one step is computed from.
 #[derive(Clone, Copy)]
 pub struct StepNumbers {
@@ -41,4 +43,28 @@ pub struct Narrow {
     pub idle_from: u32,
     /// The step after the last one without traction.
     pub idle_to: u32,
+}
+
+/// Why the text of a route was refused. Lines are counted from 1, and the first line that is refused counts.
+#[derive(Clone, Copy, PartialEq, Eq, Debug)]
+pub enum RouteFault {
+    /// The line is not of its form: it is missing, or says something else than a line at its place does.
+    Form(u32),
+    /// The line is of its form, and what it says is out of range.
+    Range(u32),
+    /// There are more than 4,000 steps.
+    TooManySteps,
+    /// The memory ran out.
+    NoMemory,
+}
+
+impl From<AllocError> for RouteFault {
+    ghost use Rattle.std.specs.Prelude.{◌≡◌};
+    ghost use Rattle.rail_specs.specs.declared.RouteFault.TheVariants.{NoMemory};
+
+    ghost from_gives = { λ _ e. e ≡ NoMemory };
+
+    fn from(_: AllocError) -> RouteFault {
+        RouteFault::NoMemory
+    }
 }
