@@ -4,6 +4,9 @@
 //! data that they speak of.
 #![tactic(auto)]
 
+ghost use Rattle.std.specs.Prelude.{◌≡◌};
+ghost use Rattle.rail_specs.specs.Ranges.{no_narrowing};
+
 /// What the work of one step is computed from.
 #[derive(Clone, Copy)]
 pub struct StepNumbers {
@@ -41,4 +44,17 @@ pub struct Narrow {
     pub idle_from: u32,
     /// The step after the last one without traction.
     pub idle_to: u32,
+}
+
+impl Narrow {
+    /// Cap 12,000 and no step without traction: every drive keeps it.
+    pub fn none() -> Narrow
+        ensures { result ≡ no_narrowing }
+    {
+        Narrow {
+            cap: 12_000,
+            idle_from: 0,
+            idle_to: 0,
+        }
+    }
 }
