@@ -4,6 +4,9 @@
 //! data that they speak of.
 #![tactic(auto)]
 
+ghost use Rattle.std.specs.Prelude.{◌≡◌};
+ghost use Rattle.rail_specs.specs.Ranges.{no_narrowing};
+
 use std::alloc::AllocError;
 
 /// What the work of one step is computed from.
@@ -43,6 +46,19 @@ pub struct Narrow {
     pub idle_from: u32,
     /// The step after the last one without traction.
     pub idle_to: u32,
+}
+
+impl Narrow {
+    /// Cap 12,000 and no step without traction: every drive keeps it.
+    pub fn none() -> Narrow
+        ensures { result ≡ no_narrowing }
+    {
+        Narrow {
+            cap: 12_000,
+            idle_from: 0,
+            idle_to: 0,
+        }
+    }
 }
 
 /// Why the text of a route was refused. Lines are counted from 1, and the first line that is refused counts.
