@@ -159,10 +159,11 @@ impl Rules {
 
     /// The sum of the costs of the steps' work.
     #[tactic(auto, using(crate::proofs::VerdictLemmas::sums))]
-    fn total<C: StepCost>(&self, speeds: &[u16], cost: &C) -> i128
+    pub(crate) fn total<C: StepCost>(&self, speeds: &[u16], cost: &C) -> i128
         requires count { length speeds.now ≡ length self.now.steps + 1 }
         requires slow { (k : ℕ) → slice_index speeds.now k ≤ 12000 }
-        ensures { result ≡ cost_of (C.cost cost.now) self.now speeds.now }
+        ensures value { result ≡ cost_of (C.cost cost.now) self.now speeds.now }
+        ensures small { unsigned_abs result ≤ 2 ^ 74 }
     {
         let mut sum = 0;
         for i in 0..self.steps() {
