@@ -1,0 +1,4 @@
+pub mod Putting
+pub mod Files
+pub mod Raising
+pub mod CountLemmas

@@ -1,0 +1,8 @@
+use Rattle.std.proofs.Common.{◌≤◌, ◌-◌, vec_len}
+use Rattle.edge_io.proofs.file_shelf.read_front.Given as goal
+
+abbrev pub invariant-loop-block : goal.invariant-loop-block
+invariant-loop-block g l = vec_len l.bytes ≤ l.most
+
+abbrev pub decreases-loop-block : goal.decreases-loop-block
+decreases-loop-block g l = l.most - vec_len l.bytes

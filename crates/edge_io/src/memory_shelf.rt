@@ -1,0 +1,159 @@
+// Files in memory.
+
+ghost use Rattle.std.specs.Prelude.{◌≡◌, ◌≢◌, ◌≤◌, ◌+◌, ℕ, List, IfOk, Some, None, option_map, take};
+ghost use Rattle.rail_specs.specs.Faults.{Fetches, Rose};
+ghost use Rattle.edge_io.specs.Counts.{count_in, raised};
+ghost use Rattle.edge_io.specs.Memory.{counted, file_of, next_file};
+ghost use Rattle.edge_io.specs.Named.{named};
+
+use crate::calls::fails_next;
+use crate::counts::Counts;
+use crate::shelf::{FetchFault, Shelf};
+use std::alloc::Global;
+use std::marker::Model;
+
+/// Files in memory, which tell all, and fail at the calls of chosen numbers.
+#[derive(Drop)]
+pub struct MemoryShelf {
+    files: Vec<(String, Vec<u8>)>,
+    fails: Vec<u32>,
+    calls: u64,
+    counts: Counts,
+}
+
+impl Model for MemoryShelf {
+    ghost use Rattle.edge_io.specs.Memory.{MemoryFiles};
+    ghost use Rattle.edge_io.specs.Named.{named};
+
+    ghost Value = { MemoryFiles };
+
+    ghost view = { λ s. record { files = named s.files.items; fails = s.fails.items; calls = s.calls; faults = s.counts } };
+}
+
+impl MemoryShelf {
+    /// These files, of which the first of a name counts, where the calls of these numbers fail. The first call has the
+    /// number 1.
+    pub fn new(alloc: Global, files: Vec<(String, Vec<u8>)>, fails: Vec<u32>) -> MemoryShelf
+        ensures files { result.files ≡ named files.items }
+        ensures fails { result.fails ≡ fails.items }
+        ensures calls { result.calls ≡ 0 }
+        ensures faults { (n : List ℕ) → count_in result.faults n ≡ 0 }
+    {
+        MemoryShelf {
+            files,
+            fails,
+            calls: 0,
+            counts: Counts::new(alloc),
+        }
+    }
+}
+
+/// The first file of a name.
+fn find_file<'a>(files: &'a [(String, Vec<u8>)], name: &str) -> Option<&'a [u8]>
+    ensures { option_map (λ b. b.now) result ≡ file_of (named files.now) name.now }
+{
+    for file in files {
+        if file.0.as_str() == name {
+            return Some(file.1.as_slice());
+        }
+    }
+    None
+}
+
+/// The first bytes of a file, at most so many.
+fn front_of(alloc: Global, file: &[u8], most: usize) -> Result<Vec<u8>, FetchFault>
+    ensures front { IfOk result (λ v. v.items ≡ take most file.now) }
+    ensures memory { result ≢ Err FetchFault.Failed }
+{
+    let front = if file.len() <= most {
+        file
+    } else {
+        &file[..most]
+    };
+    match Vec::from_slice(alloc, front) {
+        Ok(bytes) => Ok(bytes),
+        Err(_) => Err(FetchFault::NoMemory),
+    }
+}
+
+impl Shelf for MemoryShelf {
+    ghost contents = { λ s name. Some (file_of s.files name) };
+
+    ghost faults = { λ s name. count_in s.faults name };
+
+    /// `Failed` comes exactly where the call's number is listed or no file has the name, want of memory aside. The
+    /// room for the name's count is made before all else, and where there is none nothing changes.
+    fn fetch(&mut self, alloc: Global, name: &str, most: usize) -> Result<Vec<u8>, FetchFault>
+        ensures bytes { IfOk result (λ v. Fetches (Some (file_of self.old.files name.now)) most v.items) }
+        ensures given { IfOk result (λ v. option_map (λ file. take most file) (next_file self.old name.now) ≡ Some v.items) }
+        ensures failed { result ≡ Err FetchFault.Failed → next_file self.old name.now ≡ None }
+        ensures calls { result ≢ Err FetchFault.NoMemory → self.new.calls ≡ counted self.old.calls }
+        ensures fewer_calls { result ≡ Err FetchFault.NoMemory → (self.old.calls ≤ self.new.calls) × (self.new.calls ≤ self.old.calls + 1) }
+        ensures files { self.new.files ≡ self.old.files }
+        ensures fails { self.new.fails ≡ self.old.fails }
+        ensures raised { result ≡ Err FetchFault.Failed → count_in self.new.faults name.now ≡ raised (count_in self.old.faults name.now) }
+        ensures not_raised { result ≢ Err FetchFault.Failed → (n : List ℕ) → count_in self.new.faults n ≡ count_in self.old.faults n }
+        ensures kept { (n : List ℕ) → Some (file_of self.new.files n) ≡ Some (file_of self.old.files n) }
+        ensures later { (n : List ℕ) → count_in self.old.faults n ≤ count_in self.new.faults n }
+        ensures others { (n : List ℕ) → n ≢ name.now → count_in self.new.faults n ≡ count_in self.old.faults n }
+        ensures cause { result ≡ Err FetchFault.Failed → Rose (count_in self.old.faults name.now) (count_in self.new.faults name.now) }
+    {
+        if self.counts.make_room(alloc, name).is_err() {
+            return Err(FetchFault::NoMemory);
+        }
+        let is_failing = fails_next(self.fails.as_slice(), self.calls);
+        self.calls = self.calls.saturating_add(1);
+        match find_file(self.files.as_slice(), name) {
+            Some(file) if !is_failing => front_of(alloc, file, most),
+            _ => {
+                self.counts.raise(name);
+                Err(FetchFault::Failed)
+            }
+        }
+    }
+}
+
+#[cfg(test)]
+mod tests {
+    use super::*;
+    use std::alloc::AllocError;
+    use std::test::Fail;
+
+    /// A shelf with two files of one name and another file.
+    fn shelf_of(alloc: Global, fails: &[u32]) -> Result<MemoryShelf, AllocError> {
+        let mut files = Vec::new(alloc);
+        for (name, text) in [("a", "first"), ("a", "second"), ("b", "other")] {
+            let name = String::from_str(alloc, name)?;
+            files.push((name, text.as_bytes().to_vec(alloc)?))?;
+        }
+        Ok(MemoryShelf::new(alloc, files, fails.to_vec(alloc)?))
+    }
+
+    /// Fetches through the trait.
+    fn fetch<S: Shelf>(alloc: Global, shelf: &mut S, name: &str) -> Result<Vec<u8>, FetchFault> {
+        shelf.fetch(alloc, name, 4)
+    }
+
+    #[test]
+    fn files_are_fetched(rt: HostRuntime) -> Result<(), Fail> {
+        let alloc = rt.alloc();
+        let mut shelf = shelf_of(alloc, &[2, 4])?;
+        let calls = [
+            ("a", Ok("firs")),
+            ("a", Err(FetchFault::Failed)),
+            ("b", Ok("othe")),
+            ("b", Err(FetchFault::Failed)),
+            ("c", Err(FetchFault::Failed)),
+            ("b", Ok("othe")),
+        ];
+        for (name, answer) in calls {
+            match (fetch(alloc, &mut shelf, name), answer) {
+                (Ok(bytes), Ok(text)) => assert_eq!(rt; bytes.as_slice(), text.as_bytes()),
+                (bytes, text) => assert_eq!(rt; bytes.err(), text.err()),
+            }
+        }
+        assert_eq!(rt; shelf.fetch(alloc, "a", 100), Ok(b"first".to_vec(alloc)?));
+        assert_eq!(rt; shelf.fetch(alloc, "a", 0), Ok(Vec::new(alloc)));
+        Ok(())
+    }
+}
