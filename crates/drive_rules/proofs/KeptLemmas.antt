@@ -1,15 +1,18 @@
 -- No rule is broken exactly where the speeds are a drive on time.
-use Rattle.std.proofs.Common.{ℕ, zero, suc, ◌≡◌, ◌<◌, ◌≤◌, ◌+◌, ◌-◌, ◌↔◌, Option, None, Some, List, length, get_or, refl, sym, subst, inl, inr, arith}
-use Rattle.std.specs.Prelude.{ℤ, pos, ◌≤ℤ◌, slice_index}
+use Rattle.std.proofs.Common.{ℕ, zero, suc, ◌≡◌, ◌<◌, ◌≤◌, ◌+◌, ◌^◌, ◌↔◌, Option, None, Some, List, length, get_or, refl, sym, subst, inl, inr, arith}
+use Rattle.std.specs.Prelude.{ℤ, pos, ◌≤ℤ◌, slice_index, Result, Ok, Err, IfOk, IfErr, IsTrue, is_ok}
+use Rattle.std.specs.Int.RustNames.{unsigned_abs}
 use Rattle.std.proofs.lemmas.Int.{ints}
-use Rattle.std.proofs.lemmas.Bool.{cases_eq, cases_lt}
+use Rattle.std.proofs.lemmas.Bool.{cases_eq}
 use Rattle.std.proofs.lemmas.Bool.Decides.{nat_tests}
-use Rattle.std.proofs.lemmas.List.{get_or_past, get_or_default}
-use Rattle.rail_specs.specs.Rules.{Rules, IsDrive, IsStepKept, IsPassed}
+use Rattle.std.proofs.lemmas.List.{get_or_default}
+use Rattle.rail_specs.specs.Rules.{Rules, IsDrive, IsStepKept, IsPassed, step_at}
+use Rattle.rail_specs.specs.Step.{work}
 use Rattle.rail_specs.specs.Times.{IsOnTimeUp, time_up}
 use Rattle.rail_specs.specs.Rules.{no_timing}
 use Rattle.drive_rules.specs.Shaped.{IsShaped}
-use Rattle.drive_rules.specs.Verdict.{first_below, first_of, point_fault, step_fault, timing_fault, verdict, Moves, IsKept, Judges}
+use Rattle.drive_rules.specs.Verdict.{first_below, first_of, point_fault, step_rule, step_fault, timing_fault, verdict, Moves, IsKept, Judges}
+use Rattle.drive_rules.specs.declared.judge.Rule.{Rule}
 use Rattle.drive_rules.specs.declared.judge.Judged.{Judged}
 use Rattle.drive_rules.specs.declared.judge.Judged.TheVariants.{Kept, Broken}
 
@@ -40,6 +43,19 @@ point_kept r speeds k h = grind (arith, nat_tests)
 
 pub kept_point : (r : Rules) (speeds : List ℕ) (k : ℕ) → PointKept r k (slice_index speeds k) → point_fault r speeds k ≡ None
 kept_point r speeds k h = grind (arith, nat_tests)
+
+pub rule_kept : (r : Rules) (i v0 v1 : ℕ) → step_rule r i v0 v1 ≡ None → IsStepKept r i v0 v1
+rule_kept r i v0 v1 h = grind (arith, nat_tests, ints)
+
+pub kept_rule : (r : Rules) (i v0 v1 : ℕ) → IsStepKept r i v0 v1 → step_rule r i v0 v1 ≡ None
+kept_rule r i v0 v1 h = grind (arith, nat_tests, ints)
+
+-- a step has its work exactly where it is kept
+pub kept_with_work : (r : Rules) (i v0 v1 : ℕ) (result : Result ℤ Rule) →
+    IfOk result (λ w. (step_rule r i v0 v1 ≡ None) × (w ≡ work (step_at r i) v0 v1) × (unsigned_abs w < 2 ^ 62)) → IfErr result (λ rule. step_rule r i v0 v1 ≡ Some rule) →
+    IsTrue (is_ok result) ↔ IsStepKept r i v0 v1
+kept_with_work r i v0 v1 (Ok w) h e = (λ _. rule_kept r i v0 v1 h.0, λ _. refl)
+kept_with_work r i v0 v1 (Err rule) h e = (λ b. cc, λ k. let n = kept_rule r i v0 v1 k in cc)
 
 pub step_kept : (r : Rules) (speeds : List ℕ) (i : ℕ) → step_fault r speeds i ≡ None → IsStepKept r i (slice_index speeds i) (slice_index speeds (i + 1))
 step_kept r speeds i h = grind (arith, nat_tests, ints)
@@ -108,15 +124,10 @@ moves_from_points r speeds s c h i l =
     let b = point_kept r speeds (i + 1) (points (i + 1) (omega (arith, c))) in
     s.moving i (slice_index speeds i) (slice_index speeds (i + 1)) l a.start a.later (b.later (omega arith))
 
-pub slow_from_steps : (r : Rules) (speeds : List ℕ) → IsShaped r → length speeds ≡ length r.steps + 1 → first_below (step_fault r speeds) (length r.steps) ≡ None → (k : ℕ) → slice_index speeds k ≤ 12000
-slow_from_steps r speeds s c h k =
-    let steps = first_below-none (step_fault r speeds) (length r.steps) h in
-    elim (cases_lt k (length r.steps)) [
-      | inl l ↦ omega (arith, (step_kept r speeds k (steps k l)).top.0, s.top)
-      | inr l ↦ elim (cases_eq k (length r.steps)) [
-        | inl e ↦ (let b : length r.steps - 1 < length r.steps = omega (arith, s.some) in
-            let f : k ≡ length r.steps - 1 + 1 = omega (arith, s.some) in
-            rw f (omega (arith, (step_kept r speeds (length r.steps - 1) (steps (length r.steps - 1) b)).top.1, s.top)))
-        | inr n ↦ rw (get_or_past speeds k 0 (omega (arith, c))) (omega arith)
-      ]
-    ]
+-- a drive never stands still over a step
+pub moves_from_drive : (r : Rules) (speeds : List ℕ) → IsShaped r → IsDrive r speeds → Moves r speeds
+moves_from_drive r speeds s d i l =
+    s.moving i (slice_index speeds i) (slice_index speeds (i + 1)) l
+    (λ e. rw e d.start)
+    (λ p. d.points i p (omega (arith, d.count)))
+    (d.points (i + 1) (omega arith) (omega (arith, d.count)))

@@ -4,7 +4,10 @@ use Rattle.std.proofs.lemmas.Bool.{cases_eq}
 use Rattle.std.specs.Prelude.{ℤ, ◌+ℤ◌}
 use Rattle.rail_specs.specs.Times.{sum_below}
 use Rattle.rail_specs.specs.Cost.{int_sum_below}
-use Rattle.drive_rules.specs.Verdict.{first_below, first_of}
+use Rattle.std.specs.Prelude.{List, slice_index}
+use Rattle.rail_specs.specs.Rules.{Rules}
+use Rattle.drive_rules.specs.declared.judge.Rule.{Rule}
+use Rattle.drive_rules.specs.Verdict.{first_below, first_of, step_rule, step_fault}
 
 pub first_below-next : {X : Type 0} (f : ℕ → Option X) (n : ℕ) → first_below f (n + 1) ≡ first_of (first_below f n) (f n)
 first_below-next f n = rw (add-one n) refl
@@ -15,6 +18,10 @@ first_below-found f i (suc n) x h e l = elim (cases_eq i n) [
   | inl same ↦ rw (subst (λ (j : ℕ). first_below f j ≡ None) same h) (subst (λ (j : ℕ). f j ≡ Some x) same e)
   | inr apart ↦ rw (first_below-found f i n x h e (omega arith)) refl
 ]
+
+pub step_fault-some : (r : Rules) (speeds : List ℕ) (i : ℕ) (rule : Rule) →
+    step_rule r i (slice_index speeds i) (slice_index speeds (i + 1)) ≡ Some rule → step_fault r speeds i ≡ Some (rule, i)
+step_fault-some r speeds i rule h = rw h refl
 
 pub ruleset firsts = (first_below-next, first_below-found)
 

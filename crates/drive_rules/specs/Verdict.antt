@@ -1,6 +1,6 @@
 -- The first rule that a list of speeds breaks.
 use Rattle.std.specs.Prelude.{ℕ, suc, zero, ◌+◌, ◌≡◌, ◌<◌, ◌≤◌, ℤ, pos, neg_ℤ, List, length, slice_index, slice_index_or, Option, Some, None, ◌==◌, nat_lt, if◌then◌else◌, ◌||◌}
-use Rattle.std.specs.Int.RustNames.{int_lt}
+use Rattle.std.specs.Int.RustNames.{int_lt, unsigned_abs}
 use Rattle.std.specs.Option.{option_map}
 use Rattle.rail_specs.specs.Rules.{Rules, is_stop, step_at, traction_work, brake_work}
 use Rattle.rail_specs.specs.Times.{time_up}
@@ -62,6 +62,11 @@ Moves r speeds = (i : ℕ) → i < length r.steps → 1 ≤ slice_index speeds i
 abbrev pub IsKept : Judged → Type 0
 IsKept (Kept total) = Unit {0}
 IsKept (Broken rule place) = ⊥
+
+-- the cost, where there is one, is at most this in absolute value
+abbrev pub CostsAtMost : ℕ → Judged → Type 0
+CostsAtMost most (Kept total) = unsigned_abs total ≤ most
+CostsAtMost most (Broken rule place) = Unit {0}
 
 -- a drive on time with its cost, or the first broken rule
 abbrev pub Judges : Judged → Option (Rule × ℕ) → ℤ → Type 0

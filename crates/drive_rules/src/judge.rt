@@ -1,35 +1,47 @@
-//! The judge of drives.
-ghost use Rattle.std.specs.Prelude.{◌≡◌, ℕ, ◌+◌, ◌-◌, ◌*◌, ◌<◌, ◌≤◌, ◌↔◌, ◌^◌, ℤ, pos, length, slice_index, IsTrue, None};
+//! The judge of any list of speeds.
+ghost use Rattle.std.specs.Prelude.{◌≡◌, ℕ, ◌+◌, ◌-◌, ◌*◌, ◌<◌, ◌≤◌, ◌↔◌, ◌^◌, ℤ, pos, length, slice_index, MatchResult, IfOk, IfErr, None, Some};
 ghost use Rattle.std.specs.Int.RustNames.{unsigned_abs};
 ghost use Rattle.rail_specs.specs.Rules.{IsDrive, step_at};
 ghost use Rattle.rail_specs.specs.Times.{time_up as arrival_of, IsOnTimeUp};
 ghost use Rattle.rail_specs.specs.Cost.{cost_of};
 ghost use Rattle.rail_specs.specs.Step.{work};
-ghost use Rattle.drive_rules.specs.Verdict.{point_rule, step_rule, first_below, point_fault, step_fault, timing_fault, verdict, Judges, IsKept, Moves};
+ghost use Rattle.drive_rules.specs.Verdict.{point_rule, step_rule, first_below, point_fault, step_fault, timing_fault, verdict, Judges, IsKept, CostsAtMost, Moves};
 
 use crate::rules::Rules;
 use rail_base::StepCost;
 use rail_specs::Timing;
 use step_time_bounds::time_up;
 
-/// A rule of a drive.
+/// A rule of a drive, in the order in which rules are tried.
 #[derive(Clone, Copy, PartialEq, Eq, Debug)]
 pub enum Rule {
+    /// There is one speed for each point.
     Length,
+    /// The first speed is the start speed.
     Start,
+    /// The speed at a stop after the first point is 0.
     Stop,
+    /// The speed at any other point after the first is at least 1.
     Standing,
+    /// Both speeds of a step are at most its limit.
     Limit,
+    /// Both speeds of a step are at most the train's top speed.
     Top,
+    /// The step's work is at most that of the traction at the exit speed.
     Traction,
+    /// The step's work takes no more than the brakes do at the entry speed.
     Brake,
+    /// The time of arrival at a timing point, step times rounded up, is at most its latest time.
     Late,
 }
 
 /// What a list of speeds is.
 #[derive(Clone, Copy, PartialEq, Eq, Debug)]
 pub enum Judged {
+    /// A drive that is on time, with the sum of the costs of its steps' work.
     Kept { cost: i128 },
+    /// No such drive: the first rule that it breaks, and where. That is 0 for the length, the point for the rules of points
+    /// and for `Late`, and the step for the rules of steps.
     Broken(Rule, u32),
 }
 
@@ -69,40 +81,31 @@ impl Rules {
         None
     }
 
-    /// The first rule that step i breaks from v0 to v1.
-    fn step_rule(&self, i: usize, v0: u16, v1: u16) -> Option<Rule>
+    /// The cost of step i's work from v0 to v1, or the first of its rules that these speeds break.
+    fn step_cost<C: StepCost>(&self, i: usize, v0: u16, v1: u16, cost: &C) -> Result<i128, Rule>
         requires { i < length self.now.steps }
-        ensures { result ≡ step_rule self.now i v0 v1 }
+        ensures kept { IfOk result (λ c. (step_rule self.now i v0 v1 ≡ None) × (c ≡ C.cost cost.now (work (step_at self.now i) v0 v1)) × (unsigned_abs c ≤ 2 ^ 62)) }
+        ensures broken { IfErr result (λ rule. step_rule self.now i v0 v1 ≡ Some rule) }
     {
-        let limit = self.limit(i);
-        if v0 > limit || v1 > limit {
-            return Some(Rule::Limit);
-        }
-        if v0 > self.top() || v1 > self.top() {
-            return Some(Rule::Top);
-        }
-        let work = self.row(i).work(v0, v1);
-        if work > self.traction_work(i, v1) {
-            Some(Rule::Traction)
-        } else if work < -self.brake_work(i, v0) {
-            Some(Rule::Brake)
-        } else {
-            None
-        }
+        let work = self.kept_work(i, v0, v1)?;
+        Ok(cost.of(work as i128))
     }
 
-    /// The first step whose rules the speeds break.
-    #[tactic(auto, using(crate::proofs::VerdictLemmas::firsts))]
-    fn broken_step(&self, speeds: &[u16]) -> Option<(Rule, u32)>
+    /// The sum of the costs of the steps' work, or the first step whose rules the speeds break.
+    #[tactic(auto, using(crate::proofs::VerdictLemmas::firsts, crate::proofs::VerdictLemmas::sums))]
+    fn steps_cost<C: StepCost>(&self, speeds: &[u16], cost: &C) -> Result<i128, (Rule, u32)>
         requires { length speeds.now ≡ length self.now.steps + 1 }
-        ensures { result ≡ first_below (step_fault self.now speeds.now) (length self.now.steps) }
+        ensures small { IfOk result (λ total. unsigned_abs total ≤ 2 ^ 74) }
+        ensures first { MatchResult result (λ total. (first_below (step_fault self.now speeds.now) (length self.now.steps) ≡ None) × (total ≡ cost_of (C.cost cost.now) self.now speeds.now)) (λ fault. first_below (step_fault self.now speeds.now) (length self.now.steps) ≡ Some fault) }
     {
+        let mut sum = 0;
         for i in 0..self.steps() {
-            if let Some(rule) = self.step_rule(i, speeds[i], speeds[i + 1]) {
-                return Some((rule, i as u32));
+            match self.step_cost(i, speeds[i], speeds[i + 1], cost) {
+                Ok(cost) => sum += cost,
+                Err(rule) => return Err((rule, i as u32)),
             }
         }
-        None
+        Ok(sum)
     }
 
     /// The time at point `to`, given that at point `from`.
@@ -146,35 +149,10 @@ impl Rules {
         None
     }
 
-    /// The cost of step i's work from v0 to v1.
-    fn step_cost<C: StepCost>(&self, i: usize, v0: u16, v1: u16, cost: &C) -> i128
-        requires step { i < length self.now.steps }
-        requires entry { v0 ≤ 12000 }
-        requires exit { v1 ≤ 12000 }
-        ensures value { result ≡ C.cost cost.now (work (step_at self.now i) v0 v1) }
-        ensures small { unsigned_abs result ≤ 2 ^ 62 }
-    {
-        cost.of(self.row(i).work(v0, v1))
-    }
-
-    /// The sum of the costs of the steps' work.
-    #[tactic(auto, using(crate::proofs::VerdictLemmas::sums))]
-    pub(crate) fn total<C: StepCost>(&self, speeds: &[u16], cost: &C) -> i128
-        requires count { length speeds.now ≡ length self.now.steps + 1 }
-        requires slow { (k : ℕ) → slice_index speeds.now k ≤ 12000 }
-        ensures value { result ≡ cost_of (C.cost cost.now) self.now speeds.now }
-        ensures small { unsigned_abs result ≤ 2 ^ 74 }
-    {
-        let mut sum = 0;
-        for i in 0..self.steps() {
-            sum += self.step_cost(i, speeds[i], speeds[i + 1], cost);
-        }
-        sum
-    }
-
     /// The first broken rule, or the cost.
     fn find<C: StepCost>(&self, speeds: &[u16], cost: &C) -> Judged
-        ensures { Judges result (verdict self.now speeds.now) (cost_of (C.cost cost.now) self.now speeds.now) }
+        ensures small { CostsAtMost (2 ^ 74) result }
+        ensures first { Judges result (verdict self.now speeds.now) (cost_of (C.cost cost.now) self.now speeds.now) }
     {
         self.known();
         if speeds.len() != self.steps() + 1 {
@@ -183,23 +161,37 @@ impl Rules {
         if let Some((rule, place)) = self.broken_point(speeds) {
             return Judged::Broken(rule, place);
         }
-        if let Some((rule, place)) = self.broken_step(speeds) {
-            return Judged::Broken(rule, place);
-        }
-        if let Some((rule, place)) = self.broken_timing(speeds) {
-            return Judged::Broken(rule, place);
-        }
-        Judged::Kept {
-            cost: self.total(speeds, cost),
+        match self.steps_cost(speeds, cost) {
+            Err((rule, place)) => Judged::Broken(rule, place),
+            Ok(cost) => match self.broken_timing(speeds) {
+                Some((rule, place)) => Judged::Broken(rule, place),
+                None => Judged::Kept { cost },
+            },
         }
     }
 
-    /// What the speeds are under the rules, and what they cost.
+    /// Whether the speeds are a drive that is on time, step times rounded up, and what it costs; else the first rule that they
+    /// break: first their number, then the rules of each point in order, then those of each step, then the latest times.
+    ///
+    /// Any list of speeds may be judged. It takes no memory.
     pub fn judge<C: StepCost>(&self, speeds: &[u16], cost: &C) -> Judged
         ensures first { Judges result (verdict self.now speeds.now) (cost_of (C.cost cost.now) self.now speeds.now) }
         ensures kept { IsKept result ↔ (IsDrive self.now speeds.now × IsOnTimeUp self.now speeds.now) }
+        ensures small { CostsAtMost (2 ^ 74) result }
     {
         self.known();
         self.find(speeds, cost)
+    }
+
+    /// The time of arrival of a drive at point k, ms from its start: the upper times of the steps before the point and the
+    /// dwells at the points before it.
+    pub fn arrival(&self, speeds: &[u16], k: usize) -> u64
+        requires drive { IsDrive self.now speeds.now }
+        requires point { k ≤ length self.now.steps }
+        ensures value { result ≡ arrival_of self.now speeds.now k }
+        ensures early { result ≤ 210000000 * k }
+    {
+        self.known();
+        self.time_at(speeds, 0, 0, k)
     }
 }

@@ -1,15 +1,14 @@
 //! The rules of a run: its steps, points and latest times, and what its train can do.
-ghost use Rattle.std.specs.Prelude.{◌≡◌, ℕ, ◌+◌, ◌-◌, ◌*◌, ◌<◌, ◌≤◌, ◌↔◌, ◌^◌, ℤ, pos, neg_ℤ, ◌≤ℤ◌, length, slice_index, IsTrue, IfOk, All};
+ghost use Rattle.std.specs.Prelude.{◌≡◌, ℕ, ◌+◌, ◌*◌, ◌<◌, ◌≤◌, length, slice_index, IfOk, All};
 ghost use Rattle.std.specs.Int.RustNames.{unsigned_abs};
-ghost use Rattle.rail_specs.specs.Rules.{IsStepKept, is_stop, step_at, traction_work, brake_work};
-ghost use Rattle.rail_specs.specs.Step.{work};
+ghost use Rattle.rail_specs.specs.Rules.{is_stop, step_at};
 ghost use Rattle.rail_specs.specs.Times.{slack_of, standing_before};
 ghost use Rattle.drive_rules.specs.Timings.{Rises};
 ghost use Rattle.drive_rules.specs.Shape.{rules_of};
 ghost use Rattle.drive_rules.specs.Shaped.{IsShaped};
 
 use crate::parts::Parts;
-use force_table::{ForceTable, SpeedTable};
+use force_table::ForceTable;
 use rail_specs::Timing;
 use std::alloc::{AllocError, Global};
 use std::marker::Model;
@@ -20,7 +19,7 @@ use step_energy::StepRow;
 /// Contracts see them as the plain data of a run, of which `known` tells what always holds.
 #[derive(Drop)]
 pub struct Rules {
-    parts: Parts,
+    pub(crate) parts: Parts,
 }
 
 impl Model for Rules {
@@ -183,57 +182,4 @@ impl Rules {
         }
         sum
     }
-
-    /// The most work that the traction does over step i, at the force of the exit speed v1, in 0.5 microjoule.
-    pub fn traction_work(&self, i: usize, v1: u16) -> i128
-        requires step { i < length self.now.steps }
-        requires speed { v1 ≤ self.now.top }
-        ensures { result ≡ pos (traction_work self.now i v1) }
-    {
-        (2_000_000 * self.parts.rows[i].metres() as u64 * self.parts.traction.at(v1) as u64) as i128
-    }
-
-    /// The most work that the brakes take over step i, at the force of the entry speed v0, in 0.5 microjoule.
-    pub fn brake_work(&self, i: usize, v0: u16) -> i128
-        requires step { i < length self.now.steps }
-        requires speed { v0 ≤ self.now.top }
-        ensures value { result ≡ pos (brake_work self.now i v0) }
-        ensures small { result ≤ℤ pos (2 ^ 62) }
-    {
-        (2_000_000 * self.parts.rows[i].metres() as u64 * self.parts.brake.at(v0) as u64) as i128
-    }
-
-    /// Whether step i from v0 to v1 is within the limit, the top speed and the forces.
-    pub fn step_kept(&self, i: usize, v0: u16, v1: u16) -> bool
-        requires { i < length self.now.steps }
-        ensures { IsTrue result ↔ IsStepKept self.now i v0 v1 }
-    {
-        let limit = self.parts.limits[i];
-        if v0 > limit || v1 > limit || v0 > self.parts.top || v1 > self.parts.top {
-            return false;
-        }
-        let row = &self.parts.rows[i];
-        let scale = 2_000_000 * row.metres() as u64;
-        is_within(
-            row.work(v0, v1),
-            scale * self.parts.traction.at(v1) as u64,
-            scale * self.parts.brake.at(v0) as u64,
-        )
-    }
-
-    /// Whether step i from v0 to v1 needs no traction: its work is at most 0.
-    pub fn step_idle(&self, i: usize, v0: u16, v1: u16) -> bool
-        requires step { i < length self.now.steps }
-        requires entry { v0 ≤ 12000 }
-        requires exit { v1 ≤ 12000 }
-        ensures { IsTrue result ↔ (work (step_at self.now i) v0 v1 ≤ℤ pos 0) }
-    {
-        self.parts.rows[i].work(v0, v1) <= 0
-    }
-}
-
-fn is_within(work: i128, most: u64, least: u64) -> bool
-    ensures { IsTrue result ↔ ((work ≤ℤ pos most) × (neg_ℤ (pos least) ≤ℤ work)) }
-{
-    work <= most as i128 && work >= -(least as i128)
 }
