@@ -1,9 +1,10 @@
 //! Whether a drive is late, and where first.
-ghost use Rattle.std.specs.Prelude.{◌≡◌, ℕ, ◌+◌, ◌-◌, ◌*◌, ◌<◌, ◌≤◌, pos, IfSome, IfNone};
+ghost use Rattle.std.specs.Prelude.{◌≡◌, ℕ, ◌+◌, ◌-◌, ◌*◌, ◌<◌, ◌≤◌, pos, IfSome, IfNone, List, slice_index};
 ghost use Rattle.rail_specs.specs.Rules.{IsDrive, timing_at};
 ghost use Rattle.rail_specs.specs.Times.{time_up as arrival_of, IsOnTimeUp, IsFirstLate};
 
 use crate::rules::Rules;
+use step_time_bounds::times_fall;
 
 /// Where a drive is late first.
 #[derive(Clone, Copy, PartialEq, Eq, Debug)]
@@ -22,9 +23,12 @@ impl Rules {
         requires { IsDrive self.now speeds.now }
         ensures on_time { IfNone result (IsOnTimeUp self.now speeds.now) }
         ensures late { IfSome result (λ at. IsFirstLate self.now speeds.now at.timing) }
+        // No drive that is nowhere faster is on time either.
+        ensures slower { IfSome result (λ at. (d : List ℕ) → IsDrive self.now d → ((k : ℕ) → slice_index d k ≤ slice_index speeds.now k) → IsOnTimeUp self.now d → ⊥) }
         ensures arrival { IfSome result (λ at. at.arrival ≡ arrival_of self.now speeds.now (timing_at self.now at.timing).point) }
     {
         self.known();
+        times_fall();
         let timings = self.timings();
         let mut point = 0;
         let mut time = 0;
