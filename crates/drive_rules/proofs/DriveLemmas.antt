@@ -15,14 +15,14 @@ moves_of_drive r speeds s d i l =
     (λ p. d.points i p (omega (arith, d.count)))
     (d.points (i + 1) (omega arith) (omega (arith, d.count)))
 
--- no speed of a drive is above 12,000
-pub slow_drive : (r : Rules) (speeds : List ℕ) → IsShaped r → IsDrive r speeds → (k : ℕ) → slice_index speeds k ≤ 12000
-slow_drive r speeds s d k = elim (cases_lt k (length r.steps)) [
-  | inl l ↦ omega (arith, (d.steps k l).top.0, s.top)
+-- no speed of a drive is above the top
+pub top_of_drive : (r : Rules) (speeds : List ℕ) → IsShaped r → IsDrive r speeds → (k : ℕ) → slice_index speeds k ≤ r.top
+top_of_drive r speeds s d k = elim (cases_lt k (length r.steps)) [
+  | inl l ↦ (d.steps k l).top.0
   | inr l ↦ elim (cases_eq k (length r.steps)) [
     | inl e ↦ (let b : length r.steps - 1 < length r.steps = omega (arith, s.some) in
         let f : k ≡ length r.steps - 1 + 1 = omega (arith, s.some) in
-        rw f (omega (arith, (d.steps (length r.steps - 1) b).top.1, s.top)))
+        rw f (d.steps (length r.steps - 1) b).top.1)
     | inr n ↦ rw (get_or_past speeds k 0 (omega (arith, d.count))) (omega arith)
   ]
 ]

@@ -9,6 +9,7 @@ pub mod Numbers
 pub mod Lines
 pub mod Route
 pub mod Faults
+pub mod Phase
 pub mod Report
 pub mod Plan
 pub mod Words

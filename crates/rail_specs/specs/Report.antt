@@ -1,8 +1,12 @@
 -- The texts that the program prints. Each line ends with a line feed, numbers are in their shortest decimal spelling.
-use Rattle.std.specs.Prelude.{ℕ, List, [], ◌∷◌, ◌++◌, ℤ, pos, codes, slice_index, Bool, true, false}
+use Rattle.std.specs.Prelude.{ℕ, zero, suc, ◌+◌, ◌/◌, ◌==◌, ◌||◌, not, List, [], ◌∷◌, ◌++◌, ℤ, pos, negsuc, neg_ℤ, codes, length, slice_index, Bool, true, false, if◌then◌else◌}
+use Rattle.std.specs.Int.{div_ceil}
 use Rattle.std.specs.List.{flat_map}
 use Rattle.std.specs.Fmt.{signed_decimal}
+use Rattle.rail_specs.specs.declared.Timing.{Timing}
 use Rattle.rail_specs.specs.Rules.{Rules, timing_at}
+use Rattle.rail_specs.specs.Times.{time_up}
+use Rattle.rail_specs.specs.Phase.{phase_at, phase_name, is_same}
 
 -- a line of a text
 abbrev pub line : List ℕ → List ℕ
@@ -43,3 +47,39 @@ speeds_line speeds = line (codes "speeds" ++ flat_map (λ v. spaced (pos v)) spe
 abbrev pub drive_text : List ℕ → ℤ → ℤ → Bool → List ℕ
 drive_text speeds energy bound met =
     head_line ++ gap_line met ++ number_line (codes "energy") energy ++ number_line (codes "bound") bound ++ speeds_line speeds ++ line (codes "end")
+
+-- the least whole number of kilojoules that is at least an energy in 0.5 microjoule
+abbrev pub kilojoules_of : ℤ → ℤ
+kilojoules_of (pos n) = pos (div_ceil n 2000000000)
+kilojoules_of (negsuc n) = neg_ℤ (pos ((n + 1) / 2000000000))
+
+-- the first step of the run of steps of one phase that ends with step i
+abbrev pub run_start : Rules → List ℕ → ℕ → ℕ
+run_start r speeds zero = 0
+run_start r speeds (suc i) = if is_same (phase_at r speeds i) (phase_at r speeds (i + 1)) then run_start r speeds i else i + 1
+
+-- step i is the last of its run
+abbrev pub ends_run : Rules → List ℕ → ℕ → Bool
+ends_run r speeds i = i + 1 == length r.steps || not (is_same (phase_at r speeds i) (phase_at r speeds (i + 1)))
+
+-- the line of the steps from `from` to i, which have one phase: the places of its ends in metres, the phase, and the speeds there in cm/s
+abbrev pub phase_line : Rules → List ℕ → ℕ → ℕ → List ℕ
+phase_line r speeds from i =
+    line (codes "phase" ++ spaced (pos (slice_index r.places from)) ++ spaced (pos (slice_index r.places (i + 1)))
+    ++ 32 ∷ phase_name (phase_at r speeds i) ++ spaced (pos (slice_index speeds from)) ++ spaced (pos (slice_index speeds (i + 1))))
+
+-- the lines of the runs that end among the first n steps
+abbrev pub phase_lines : Rules → List ℕ → ℕ → List ℕ
+phase_lines r speeds zero = []
+phase_lines r speeds (suc i) = phase_lines r speeds i ++ (if ends_run r speeds i then phase_line r speeds (run_start r speeds i) i else [])
+
+-- the line of a timing point: its place in metres, the arrival, step times rounded up, and the latest time, in ms
+abbrev pub time_line : Rules → List ℕ → Timing → List ℕ
+time_line r speeds t = line (codes "time" ++ spaced (pos (slice_index r.places t.point)) ++ spaced (pos (time_up r speeds t.point)) ++ spaced t.latest)
+
+-- the report of a drive: whether the gap is met, its energy, also in kilojoules, the bound, its phases, its times, and its speeds
+abbrev pub report_text : Rules → List ℕ → ℤ → ℤ → Bool → List ℕ
+report_text r speeds energy bound met =
+    head_line ++ gap_line met ++ number_line (codes "energy") energy ++ number_line (codes "kilojoules") (kilojoules_of energy)
+    ++ number_line (codes "bound") bound ++ phase_lines r speeds (length r.steps) ++ flat_map (time_line r speeds) r.timings
+    ++ speeds_line speeds ++ line (codes "end")

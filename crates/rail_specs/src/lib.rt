@@ -61,6 +61,21 @@ impl Narrow {
     }
 }
 
+/// What a train does over a step. A step has the first of these that fits.
+#[derive(Clone, Copy, PartialEq, Eq, Debug)]
+pub enum Phase {
+    /// It keeps its speed.
+    Hold,
+    /// It gains speed with as much traction as it has: one speed more is above its top or its traction.
+    Power,
+    /// It rolls without traction, and could not be faster at the end without it.
+    Coast,
+    /// It brakes.
+    Brake,
+    /// It does anything else.
+    Part,
+}
+
 /// Why the text of a route was refused. Lines are counted from 1, and the first line that is refused counts.
 #[derive(Clone, Copy, PartialEq, Eq, Debug)]
 pub enum RouteFault {
