@@ -1,11 +1,12 @@
 -- What a run of the program leaves: its status and what it writes, and when a fault may come.
-use Rattle.std.specs.Prelude.{ℕ, ◌≡◌, ◌++◌, ◌∷◌, List, [], ⊤, Option, Some, None, Result, Ok, Err, pos, codes, length, MatchBool, MatchResult, ◌⊎◌, nat_lt}
+use Rattle.std.specs.Prelude.{ℕ, ◌≡◌, ◌≤◌, ◌++◌, ◌∷◌, List, [], ⊤, Option, Some, None, pos, codes, length, take, MatchBool, Result, Ok, Err, ◌⊎◌, nat_lt}
 use Rattle.rail_specs.specs.declared.RouteFault.{RouteFault}
 use Rattle.rail_specs.specs.declared.RouteFault.TheVariants.{Form, Range, TooManySteps, NoMemory}
-use Rattle.rail_specs.specs.Faults.{Rose, Told}
+use Rattle.rail_specs.specs.Faults.{Rose, Told, Appends}
 use Rattle.rail_specs.specs.Words.{Command, Usage, Route}
 use Rattle.rail_specs.specs.Report.{line, spaced}
-use Rattle.rail_specs.specs.Route.{route_of, rules_of_route}
+use Rattle.rail_specs.specs.Route.{rules_of_text}
+use Rattle.rail_specs.specs.Rules.{Rules}
 use Rattle.rail_specs.specs.Plan.{IsPlanAnswer}
 
 -- the bytes of a file, at most
@@ -36,15 +37,15 @@ pub record IsRefusal (role fault : List ℕ) (status : ℕ) (text : List ℕ) : 
   pub ends : status ≡ 3
   pub says : text ≡ refused_text role fault
 
--- the answer to the bytes of a route file: a refusal of its length or of its first fault, or the answer to its rules,
--- at a tolerance of 10 per mille
+-- the answer to a route that was read, or to its refusal, at a tolerance of 10 per mille
+abbrev pub IsReadAnswer : Result Rules RouteFault → ℕ → List ℕ → Type 0
+IsReadAnswer (Ok rules) status text = IsPlanAnswer rules 10 status text
+IsReadAnswer (Err fault) status text = IsRefusal (codes "route") (route_fault_words fault) status text
+
+-- the answer to the bytes of a route file: a refusal of a file that is too long, or else the answer to what it says
 abbrev pub IsRouteAnswer : List ℕ → ℕ → List ℕ → Type 0
 IsRouteAnswer file status text =
-    MatchBool (nat_lt most_bytes (length file))
-    (IsRefusal (codes "route") (codes "too-long") status text)
-    (MatchResult (route_of file)
-    (λ route. IsPlanAnswer (rules_of_route route) 10 status text)
-    (λ fault. IsRefusal (codes "route") (route_fault_words fault) status text))
+    MatchBool (nat_lt most_bytes (length file)) (IsRefusal (codes "route") (codes "too-long") status text) (IsReadAnswer (rules_of_text file) status text)
 
 -- a shelf may hold these bytes under a name: any where it tells nothing, those that it tells, and none where it has no such file
 abbrev pub MayHold : Told → List ℕ → Type 0
@@ -65,3 +66,23 @@ IsReadFault (Route name) before now status text = Rose (before name) (now name) 
 -- a run may write this text and end with this status, where the counts of faults of the files were `before` and are `now`
 abbrev pub MayWrite : Command → (List ℕ → Told) → (List ℕ → ℕ) → (List ℕ → ℕ) → ℕ → List ℕ → Type 0
 MayWrite command told before now status text = IsAnswer command told status text ⊎ IsReadFault command before now status text
+
+-- a whole text that the run may write was written, with its own status
+pub record Wrote (command : Command) (told : List ℕ → Told) (before now : List ℕ → ℕ) (was is : Option (List ℕ)) (status : ℕ) : Type 0 where
+  pub text : List ℕ
+  pub may : MayWrite command told before now status text
+  pub appended : Appends was text is
+
+-- the front of a text that the run may write, with a status of its own, was written
+pub record WroteFront (command : Command) (told : List ℕ → Told) (before now : List ℕ → ℕ) (was is : Option (List ℕ)) : Type 0 where
+  pub text : List ℕ
+  pub status : ℕ
+  pub may : MayWrite command told before now status text
+  pub count : ℕ
+  pub within : count ≤ length text
+  pub appended : Appends was (take count text) is
+
+-- the words name this file
+abbrev pub Names : Command → List ℕ → Type 0
+Names Usage name = ⊥
+Names (Route file) name = name ≡ file

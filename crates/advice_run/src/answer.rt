@@ -1,15 +1,13 @@
-//! The answer to a command over what its files hold.
+//! The answers to the bytes of files.
 
-ghost use Rattle.std.specs.Prelude.{◌≡◌, ◌≤◌, ◌^◌, ℕ, List, codes, length, IfOk, IfSome, IfNone};
-ghost use Rattle.rail_specs.specs.Rules.{IsGreatestDrive, NoDrive};
-ghost use Rattle.rail_specs.specs.Times.{IsOnTimeUp};
-ghost use Rattle.rail_specs.specs.Plan.{IsPlanAnswer};
-ghost use Rattle.advice_run.specs.Outcome.{IsRefusal, IsRouteAnswer, route_fault_words as words_of, read_fault_text as text_of_read_fault, usage_text as text_of_usage, most_bytes};
+ghost use Rattle.std.specs.Prelude.{◌≡◌, ◌≤◌, ◌^◌, ◌++◌, ◌∷◌, ℕ, List, pos, codes, length, IfOk};
+ghost use Rattle.rail_specs.specs.Report.{spaced};
+ghost use Rattle.advice_run.specs.Outcome.{IsRefusal, IsRouteAnswer, route_fault_words as words_of, read_fault_text as text_of_read_fault, usage_text as text_of_usage};
 
-use drive_report::{drive_text, late_text, no_drive_text};
-use drive_rules::{Judged, RouteFault, Rules, read_route};
-use rail_base::{Traction, is_gap_met, put_number};
-use speed_envelopes::greatest_drive;
+use crate::plan::plan_answer;
+use drive_rules::Rules;
+use rail_base::put_number;
+use rail_specs::RouteFault;
 use std::alloc::{AllocError, Global};
 use std::sync::ledger::Ledger;
 use step_energy::Steps;
@@ -20,14 +18,33 @@ pub const MOST_BYTES: usize = 1_048_576;
 /// The tolerance of the gap, in per mille of the energy.
 const TOLERANCE: u32 = 10;
 
-/// A text, and the status that the program ends with once it is written.
+/// A text, and the status that the program ends with once the text is written.
 #[derive(Drop)]
 pub struct Answer {
     pub status: u8,
     pub text: Vec<u8>,
+    pub ghost written: { status ≤ 6 },
 }
 
-/// The answer that a file or the rules are refused.
+/// The text about usage.
+pub fn usage(alloc: Global) -> Result<Answer, AllocError>
+    ensures { IfOk result (λ a. (a.status ≡ 2) × (a.text.items ≡ text_of_usage)) }
+{
+    let text = Vec::from_slice(alloc, b"usage: advice route FILE\n")?;
+    Ok(Answer { status: 2, text })
+}
+
+/// The answer that the file of this role can't be read.
+pub fn read_fault(alloc: Global, role: &[u8]) -> Result<Answer, AllocError>
+    ensures { IfOk result (λ a. (a.status ≡ 6) × (a.text.items ≡ text_of_read_fault role.now)) }
+{
+    let mut text = Vec::from_slice(alloc, b"read fault ")?;
+    text.extend_from_slice(role)?;
+    text.push(b'\n')?;
+    Ok(Answer { status: 6, text })
+}
+
+/// The answer that the file of this role, or the rules, are refused.
 fn refusal(alloc: Global, role: &[u8], fault: &[u8]) -> Result<Answer, AllocError>
     ensures { IfOk result (λ a. IsRefusal role.now fault.now a.status a.text.items) }
 {
@@ -39,8 +56,9 @@ fn refusal(alloc: Global, role: &[u8], fault: &[u8]) -> Result<Answer, AllocErro
     Ok(Answer { status: 3, text })
 }
 
-/// A word, a space and a number.
+/// A word and a number.
 fn numbered(alloc: Global, word: &[u8], number: u32) -> Result<Vec<u8>, AllocError>
+    ensures { IfOk result (λ text. text.items ≡ word.now ++ spaced (pos number)) }
 {
     let mut text = Vec::from_slice(alloc, word)?;
     text.push(b' ')?;
@@ -58,4 +76,38 @@ fn route_fault_words(alloc: Global, fault: RouteFault) -> Result<Vec<u8>, AllocE
         RouteFault::TooManySteps => Vec::from_slice(alloc, b"too-many-steps"),
         RouteFault::NoMemory => Ok(Vec::new(alloc)),
     }
+}
+
+/// The answer to the bytes of a route file.
+pub fn route_answer<L: Ledger>(
+    alloc: Global,
+    file: &[u8],
+    steps: &mut Steps<L>,
+) -> Result<Answer, AllocError>
+    ensures { IfOk result (λ a. IsRouteAnswer file.now a.status a.text.items) }
+{
+    if file.len() > MOST_BYTES {
+        return refusal(alloc, b"route", b"too-long");
+    }
+    match read_route(alloc, file, steps) {
+        Ok(rules) => plan_answer(alloc, &rules, TOLERANCE),
+        Err(RouteFault::NoMemory) => Err(AllocError),
+        Err(fault) => {
+            let words = route_fault_words(alloc, fault)?;
+            refusal(alloc, b"route", words.as_slice())
+        }
+    }
+}
+
+ghost use Rattle.std.specs.Prelude.{◌≢◌, Err};
+ghost use Rattle.rail_specs.specs.Route.{rules_of_text};
+
+fn read_route<L: Ledger>(
+    alloc: Global,
+    text: &[u8],
+    steps: &mut Steps<L>,
+) -> Result<Rules, RouteFault>
+    ensures { result ≢ Err RouteFault.NoMemory → result ≡ rules_of_text text.now }
+{
+    Err(RouteFault::NoMemory)
 }

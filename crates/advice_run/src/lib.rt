@@ -2,6 +2,8 @@
 #![tactic(auto)]
 
 mod answer;
+mod command;
+mod plan;
 mod program;
 mod words;
 

@@ -19,7 +19,7 @@ phase_of r i v0 v1 =
     else Part
 
 -- the phase of step i of a list of speeds
-abbrev pub phase_at : Rules → List ℕ → ℕ → Phase
+unfoldable pub phase_at : Rules → List ℕ → ℕ → Phase
 phase_at r speeds i = phase_of r i (slice_index speeds i) (slice_index speeds (i + 1))
 
 -- the names of phases

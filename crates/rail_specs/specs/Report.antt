@@ -17,30 +17,33 @@ abbrev pub spaced : ℤ → List ℕ
 spaced n = 32 ∷ signed_decimal n
 
 -- a line of a word and a number
-abbrev pub number_line : List ℕ → ℤ → List ℕ
+unfoldable pub number_line : List ℕ → ℤ → List ℕ
 number_line word n = line (word ++ spaced n)
 
 -- the first line of each answer
-abbrev pub head_line : List ℕ
+unfoldable pub head_line : List ℕ
 head_line = line (codes "advice 1")
 
 -- the text where there is no drive
 abbrev pub no_drive_text : List ℕ
 no_drive_text = head_line ++ line (codes "no drive")
 
--- the text where the drive that arrives at this time is the first to be late at the timing point of index j:
--- its place in metres, the arrival and the latest time in ms
+-- the line of the timing point of index j, where the drive that arrives at this time is the first to be late: its place in
+-- metres, the arrival and the latest time in ms
+abbrev pub late_line : Rules → ℕ → ℕ → List ℕ
+late_line r j arrival = line (codes "late" ++ spaced (pos (slice_index r.places (timing_at r j).point)) ++ spaced (pos arrival) ++ spaced (timing_at r j).latest)
+
+-- the text where no drive is on time
 abbrev pub late_text : Rules → ℕ → ℕ → List ℕ
-late_text r j arrival =
-    head_line ++ line (codes "late" ++ spaced (pos (slice_index r.places (timing_at r j).point)) ++ spaced (pos arrival) ++ spaced (timing_at r j).latest)
+late_text r j arrival = head_line ++ late_line r j arrival
 
 -- whether the bound is within the tolerance
-abbrev pub gap_line : Bool → List ℕ
+unfoldable pub gap_line : Bool → List ℕ
 gap_line true = line (codes "gap met")
 gap_line false = line (codes "gap open")
 
 -- the speeds at the points, in cm/s
-abbrev pub speeds_line : List ℕ → List ℕ
+unfoldable pub speeds_line : List ℕ → List ℕ
 speeds_line speeds = line (codes "speeds" ++ flat_map (λ v. spaced (pos v)) speeds)
 
 -- the text of a drive: its energy, a bound, and its speeds
@@ -59,11 +62,11 @@ run_start r speeds zero = 0
 run_start r speeds (suc i) = if is_same (phase_at r speeds i) (phase_at r speeds (i + 1)) then run_start r speeds i else i + 1
 
 -- step i is the last of its run
-abbrev pub ends_run : Rules → List ℕ → ℕ → Bool
+unfoldable pub ends_run : Rules → List ℕ → ℕ → Bool
 ends_run r speeds i = i + 1 == length r.steps || not (is_same (phase_at r speeds i) (phase_at r speeds (i + 1)))
 
 -- the line of the steps from `from` to i, which have one phase: the places of its ends in metres, the phase, and the speeds there in cm/s
-abbrev pub phase_line : Rules → List ℕ → ℕ → ℕ → List ℕ
+unfoldable pub phase_line : Rules → List ℕ → ℕ → ℕ → List ℕ
 phase_line r speeds from i =
     line (codes "phase" ++ spaced (pos (slice_index r.places from)) ++ spaced (pos (slice_index r.places (i + 1)))
     ++ 32 ∷ phase_name (phase_at r speeds i) ++ spaced (pos (slice_index speeds from)) ++ spaced (pos (slice_index speeds (i + 1))))
@@ -74,12 +77,16 @@ phase_lines r speeds zero = []
 phase_lines r speeds (suc i) = phase_lines r speeds i ++ (if ends_run r speeds i then phase_line r speeds (run_start r speeds i) i else [])
 
 -- the line of a timing point: its place in metres, the arrival, step times rounded up, and the latest time, in ms
-abbrev pub time_line : Rules → List ℕ → Timing → List ℕ
+unfoldable pub time_line : Rules → List ℕ → Timing → List ℕ
 time_line r speeds t = line (codes "time" ++ spaced (pos (slice_index r.places t.point)) ++ spaced (pos (time_up r speeds t.point)) ++ spaced t.latest)
 
--- the report of a drive: whether the gap is met, its energy, also in kilojoules, the bound, its phases, its times, and its speeds
+-- the lines of the energy, also in kilojoules, and of the bound
+abbrev pub energy_lines : ℤ → ℤ → List ℕ
+energy_lines energy bound =
+    number_line (codes "energy") energy ++ number_line (codes "kilojoules") (kilojoules_of energy) ++ number_line (codes "bound") bound
+
+-- the report of a drive: whether the gap is met, its energy and the bound, its phases, its times, and its speeds
 abbrev pub report_text : Rules → List ℕ → ℤ → ℤ → Bool → List ℕ
 report_text r speeds energy bound met =
-    head_line ++ gap_line met ++ number_line (codes "energy") energy ++ number_line (codes "kilojoules") (kilojoules_of energy)
-    ++ number_line (codes "bound") bound ++ phase_lines r speeds (length r.steps) ++ flat_map (time_line r speeds) r.timings
+    head_line ++ gap_line met ++ energy_lines energy bound ++ phase_lines r speeds (length r.steps) ++ flat_map (time_line r speeds) r.timings
     ++ speeds_line speeds ++ line (codes "end")

@@ -3,9 +3,9 @@ use Rattle.std.proofs.Common.{ℕ, ◌≤◌, ◌<◌, ◌≡◌, ◌+◌, ◌-�
 use Rattle.std.specs.Prelude.{MatchBool, slice_index}
 use Rattle.std.proofs.lemmas.Bool.{cases_lt, cases_eq}
 use Rattle.std.proofs.lemmas.List.{get_or_past}
-use Rattle.rail_specs.specs.Rules.{Rules, IsDrive, is_stop}
+use Rattle.rail_specs.specs.Rules.{Rules, IsDrive, IsGreatestDrive, is_stop}
 use Rattle.drive_rules.specs.Shaped.{IsShaped}
-use Rattle.speed_envelopes.specs.Envelope.{IsCapped, IsCeiling, IsAbove, IsPowered, IsBraked, IsGreatestDrive, Stands}
+use Rattle.speed_envelopes.specs.Envelope.{IsCapped, IsCeiling, IsAbove, IsPowered, IsBraked, Stands}
 
 pub on_stop : (b : Bool) (v : ℕ) → MatchBool b (v ≡ 0) (1 ≤ v) → b ≡ true → v ≡ 0
 on_stop true v h e = h

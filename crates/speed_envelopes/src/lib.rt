@@ -3,8 +3,8 @@
 
 ghost use Rattle.std.specs.Prelude.{◌≡◌, List, ℕ, ◌+◌, ◌≤◌, ◌<◌, ◌↔◌, length, sum, pos, neg_ℤ, ◌≤ℤ◌, ◌^◌, slice_index, IsTrue, IfSome, IfNone, IfOk};
 ghost use Rattle.std.specs.Bool.{OnTrue, OnFalse};
-ghost use Rattle.rail_specs.specs.Rules.{IsDrive};
-ghost use Rattle.speed_envelopes.specs.Envelope.{TractionKept, BrakeKept, IsGreatest, IsAbove, IsPowered, IsBraked, IsCapped, Stands, IsGreatestDrive, IsCeiling};
+ghost use Rattle.rail_specs.specs.Rules.{IsDrive, IsGreatestDrive};
+ghost use Rattle.speed_envelopes.specs.Envelope.{TractionKept, BrakeKept, IsGreatest, IsAbove, IsPowered, IsBraked, IsCapped, Stands, IsCeiling};
 ghost use Rattle.speed_envelopes.specs.Closure.{GreaterIsDrive};
 
 use drive_rules::Rules;

@@ -1,0 +1,9 @@
+use Rattle.std.proofs.Common.{◌∙◌, ap}
+use Rattle.rail_specs.specs.Report.{late_text}
+use Rattle.advice_run.proofs.PlanLemmas.{late_answer}
+use Rattle.advice_run.proofs.plan.late_answer.Goals as goal
+
+pub returns : goal.returns
+returns c =
+    late_answer c.args.rules.now c.args.tolerance c.in_ok-text.text.items c.args.speeds.now c.args.at.timing c.requires.greatest
+    (λ d e on. c.requires.slower d e (c.requires.greatest.above d e) on) c.requires.late (c.in_ok-text.ensures ∙ ap (late_text c.args.rules.now c.args.at.timing) c.requires.arrival)

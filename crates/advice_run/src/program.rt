@@ -1,0 +1,63 @@
+//! The program's top call.
+
+ghost use Rattle.std.specs.Prelude.{◌≡◌, ◌≢◌, ℕ, List};
+ghost use Rattle.rail_specs.specs.Faults.{Rose};
+ghost use Rattle.rail_specs.specs.Words.{command_of};
+ghost use Rattle.advice_run.specs.Outcome.{Wrote, WroteFront, Names};
+
+use crate::command::answer;
+use crate::words::Words;
+use edge_io::{Shelf, Sink, put_all};
+use std::alloc::Global;
+use std::sync::ledger::Ledger;
+use step_energy::Steps;
+
+/// The status of a write fault.
+const WRITE_FAULT: u8 = 7;
+
+/// The status of want of memory.
+const NO_MEMORY: u8 = 8;
+
+/// Does all that the program does: reads what the words ask for, fetches the files that they name, and writes one text.
+/// It gives the status that the program ends with:
+///
+/// - 0: the greatest drive is on time, and the gap between its energy and the bound is within the tolerance;
+/// - 1: the greatest drive is on time, and the gap is wider;
+/// - 2: the words ask for nothing, and the usage is written;
+/// - 3: a file is too long or is refused, at its first fault;
+/// - 4: there is no drive;
+/// - 5: there is a drive, and none is on time;
+/// - 6: a file can't be read;
+/// - 7: the text, or a part of it, can't be written;
+/// - 8: there is no memory, and nothing is written.
+///
+/// `steps` counts the rows of steps that are made.
+pub fn run<S: Shelf, K: Sink, L: Ledger>(
+    alloc: Global,
+    words: &Words,
+    shelf: &mut S,
+    sink: &mut K,
+    steps: &mut Steps<L>,
+) -> u8
+    // Where no put failed the whole text is written. It is the usage, the answer to the files, or a read fault whose
+    // cause is that the count of the file's own name rose in this call.
+    ensures whole { result ≢ 7 → result ≢ 8 → Wrote (command_of words.now) (S.contents shelf.old) (S.faults shelf.old) (S.faults shelf.new) (K.written sink.old) (K.written sink.new) result }
+
+    // A write fault comes only where the sink's count rose in this call, and the front of a text of this very input is written.
+    ensures write_fault { result ≡ 7 → Rose (K.faults sink.old) (K.faults sink.new) }
+    ensures front { result ≡ 7 → WroteFront (command_of words.now) (S.contents shelf.old) (S.faults shelf.old) (S.faults shelf.new) (K.written sink.old) (K.written sink.new) }
+
+    ensures no_memory { result ≡ 8 → K.written sink.new ≡ K.written sink.old }
+
+    // Files are only read, and only those that the words name.
+    ensures kept { (n : List ℕ) → S.contents shelf.new n ≡ S.contents shelf.old n }
+    ensures others { (n : List ℕ) → (Names (command_of words.now) n → ⊥) → S.faults shelf.new n ≡ S.faults shelf.old n }
+{
+    match answer(alloc, words, shelf, steps) {
+        Ok(answer) => match put_all(sink, answer.text.as_slice()) {
+            Ok(()) => answer.status,
+            Err(_) => WRITE_FAULT,
+        },
+        Err(_) => NO_MEMORY,
+    }
+}

@@ -1,0 +1,7 @@
+//! Tests of the whole program, over files and a stream in memory.
+#![tactic(auto)]
+
+#[cfg(test)]
+mod route_tests;
+#[cfg(test)]
+mod runs;

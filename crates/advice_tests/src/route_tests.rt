@@ -1,0 +1,176 @@
+//! The command `route`.
+
+use crate::runs::{Ended, plain, run_words};
+use std::alloc::{AllocError, Global};
+use std::test::Fail;
+
+/// A route of these lines between the heading and the end: the train's heading, its forces and the latest time come first.
+fn route_of(
+    alloc: Global,
+    traction: u32,
+    latest: u32,
+    steps: &[&str],
+) -> Result<String, AllocError> {
+    let mut text = format!(in alloc;
+        "route 1\ntrain 1000 1000 1000 0 0\ntop 1000\ntraction {traction}\nbrake 100000\nlatest {latest}\n"
+    )?;
+    for step in steps {
+        text.push_str("step ")?;
+        text.push_str(*step)?;
+        text.push_str("\n")?;
+    }
+    text.push_str("end\n")?;
+    Ok(text)
+}
+
+/// Files of one name.
+fn one_file(alloc: Global, name: &str, text: &[u8]) -> Result<Vec<(String, Vec<u8>)>, AllocError> {
+    let mut files = Vec::new(alloc);
+    let name = String::from_str(alloc, name)?;
+    let bytes = Vec::from_slice(alloc, text)?;
+    files.push((name, bytes))?;
+    Ok(files)
+}
+
+/// What `route` leaves over a file with these bytes.
+fn route_ended(alloc: Global, text: &[u8]) -> Result<Ended, AllocError> {
+    let mut setting = plain(alloc);
+    setting.files = one_file(alloc, "a.route", text)?;
+    run_words(alloc, &["route", "a.route"], setting)
+}
+
+const LEVEL: &str = "100 0 1000";
+
+#[test]
+fn routes_are_answered(rt: HostRuntime) -> Result<(), Fail> {
+    let alloc = rt.alloc();
+    let cases: [(u32, u32, &[&str], u8, &str); 7] = [
+        (
+            51_000,
+            50,
+            &[LEVEL, LEVEL],
+            1,
+            "advice 1\ngap open\nenergy 10200000000000\nbound 0\nspeeds 0 1000 0\nend\n",
+        ),
+        (
+            51_000,
+            50,
+            &["100 -600 1000", "100 -600 1000"],
+            0,
+            "advice 1\ngap met\nenergy 0\nbound 0\nspeeds 0 918 0\nend\n",
+        ),
+        (
+            51_000,
+            39,
+            &[LEVEL, LEVEL],
+            5,
+            "advice 1\nlate 200 40000 39000\n",
+        ),
+        (
+            18_821,
+            67,
+            &[LEVEL, LEVEL],
+            5,
+            "advice 1\nlate 200 67002 67000\n",
+        ),
+        (
+            51_000,
+            50,
+            &["100 600 1000", "100 600 1000"],
+            4,
+            "advice 1\nno drive\n",
+        ),
+        (
+            51_000,
+            60,
+            &[LEVEL, LEVEL, LEVEL],
+            1,
+            "advice 1\ngap open\nenergy 10400000000000\nbound 0\nspeeds 0 1000 1000 0\nend\n",
+        ),
+        (51_000, 50, &[LEVEL], 3, "refused route range 8\n"),
+    ];
+    for (traction, latest, steps, status, text) in cases {
+        let route = route_of(alloc, traction, latest, steps)?;
+        let got = route_ended(alloc, route.as_bytes())?;
+        assert_eq!(rt; got.status, status, "{route}");
+        assert_eq!(rt; got.text.as_str(), text, "{route}");
+    }
+    Ok(())
+}
+
+#[test]
+fn files_that_are_no_routes_are_refused(rt: HostRuntime) -> Result<(), Fail> {
+    let alloc = rt.alloc();
+    let cases: [(&[u8], &str); 4] = [
+        (b"", "refused route form 1\n"),
+        (b"route 2\n", "refused route form 1\n"),
+        (b"\x00\xff\xfe\n\n", "refused route form 1\n"),
+        (
+            b"route 1\ntrain 0 1000 1000 0 0\n",
+            "refused route range 2\n",
+        ),
+    ];
+    for (bytes, text) in cases {
+        let got = route_ended(alloc, bytes)?;
+        assert_eq!(rt; got.status, 3);
+        assert_eq!(rt; got.text.as_str(), text);
+    }
+    let long = vec![in alloc; b'\n'; 1_048_577]?;
+    let got = route_ended(alloc, long.as_slice())?;
+    assert_eq!(rt; got.status, 3);
+    assert_eq!(rt; got.text.as_str(), "refused route too-long\n");
+    let whole = vec![in alloc; b'\n'; 1_048_576]?;
+    let got = route_ended(alloc, whole.as_slice())?;
+    assert_eq!(rt; got.text.as_str(), "refused route form 1\n");
+    Ok(())
+}
+
+#[test]
+fn words_that_ask_for_nothing_are_answered_by_the_usage(rt: HostRuntime) -> Result<(), Fail> {
+    let alloc = rt.alloc();
+    let cases: [&[&str]; 6] = [
+        &[],
+        &["route"],
+        &["--help"],
+        &["help"],
+        &["route", "a", "b"],
+        &["Route", "a"],
+    ];
+    for words in cases {
+        let got = run_words(alloc, words, plain(alloc))?;
+        assert_eq!(rt; got.status, 2);
+        assert_eq!(rt; got.text.as_str(), "usage: advice route FILE\n");
+    }
+    Ok(())
+}
+
+#[test]
+fn faults_are_told(rt: HostRuntime) -> Result<(), Fail> {
+    let alloc = rt.alloc();
+    let absent = run_words(alloc, &["route", "absent"], plain(alloc))?;
+    assert_eq!(rt; absent.status, 6);
+    assert_eq!(rt; absent.text.as_str(), "read fault route\n");
+
+    let route = route_of(alloc, 51_000, 50, &[LEVEL, LEVEL])?;
+    let mut failing = plain(alloc);
+    failing.files = one_file(alloc, "a.route", route.as_bytes())?;
+    failing.failing_fetches.push(1)?;
+    let failed = run_words(alloc, &["route", "a.route"], failing)?;
+    assert_eq!(rt; failed.status, 6);
+
+    let mut short = plain(alloc);
+    short.files = one_file(alloc, "a.route", route.as_bytes())?;
+    short.piece = 10;
+    short.failing_puts.push(2)?;
+    let broken = run_words(alloc, &["route", "a.route"], short)?;
+    assert_eq!(rt; broken.status, 7);
+    assert_eq!(rt; broken.text.as_str(), "advice 1\ng");
+
+    let mut full = plain(alloc);
+    full.files = one_file(alloc, "a.route", route.as_bytes())?;
+    full.room = 12;
+    let filled = run_words(alloc, &["route", "a.route"], full)?;
+    assert_eq!(rt; filled.status, 7);
+    assert_eq!(rt; filled.text.as_str(), "advice 1\ngap");
+    Ok(())
+}

@@ -1,0 +1,71 @@
+//! Runs of the program over files and a stream in memory.
+
+ghost use Rattle.std.specs.Prelude.{◌≡◌, ◌<◌, ◌≤◌};
+
+use advice_run::{Words, run};
+use edge_io::{MemoryShelf, MemorySink};
+use std::alloc::{AllocError, Global};
+use std::marker::Brand;
+use std::sync::ledger::{Blank, Ledger};
+use step_energy::Steps;
+
+/// What a run left.
+#[derive(Debug, PartialEq, Eq, Drop)]
+pub struct Ended {
+    pub status: u8,
+    pub text: String,
+}
+
+/// A run over these files, whose fetches of these numbers fail, and a stream that takes pieces of this size, has so much
+/// room, and fails at the puts of these numbers.
+#[derive(Drop)]
+pub struct Setting {
+    pub files: Vec<(String, Vec<u8>)>,
+    pub failing_fetches: Vec<u32>,
+    pub piece: usize,
+    pub room: usize,
+    pub failing_puts: Vec<u32>,
+}
+
+/// Files without faults, and a stream without end.
+pub fn plain(alloc: Global) -> Setting
+    ensures { 1 ≤ result.piece }
+{
+    Setting {
+        files: Vec::new(alloc),
+        failing_fetches: Vec::new(alloc),
+        piece: 1_000_000,
+        room: 1_000_000,
+        failing_puts: Vec::new(alloc),
+    }
+}
+
+fn run_counted<L: Ledger>(
+    alloc: Global,
+    words: &[&str],
+    setting: Setting,
+    blank: Blank,
+) -> Result<Ended, AllocError>
+    requires piece { 1 ≤ setting.piece }
+    requires name { blank.name ≡ L.name }
+    requires parts { blank.parts ≡ L.parts }
+    requires some { 0 < L.parts }
+{
+    let mut list = Words::new(alloc);
+    for word in words {
+        list.push(*word)?;
+    }
+    let mut shelf = MemoryShelf::new(alloc, setting.files, setting.failing_fetches);
+    let mut sink = MemorySink::new(alloc, setting.piece, setting.room, setting.failing_puts)?;
+    let mut steps: Steps<L> = Steps::new(blank);
+    let status = run(alloc, &list, &mut shelf, &mut sink, &mut steps);
+    let text = String::from_utf8_lossy(alloc, sink.bytes())?;
+    Ok(Ended { status, text })
+}
+
+/// What a run with these words leaves.
+pub fn run_words(alloc: Global, words: &[&str], setting: Setting) -> Result<Ended, AllocError>
+    requires { 1 ≤ setting.piece }
+{
+    run_counted::<Brand>(alloc, words, setting, Blank::new(1))
+}

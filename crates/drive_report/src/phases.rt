@@ -1,0 +1,43 @@
+//! The phases of a drive.
+
+ghost use Rattle.std.specs.Prelude.{◌≡◌, ℕ, ◌+◌, ◌<◌, ◌≤◌, ◌||◌, nat_lt, pos, length};
+ghost use Rattle.std.specs.Int.RustNames.{int_lt};
+ghost use Rattle.rail_specs.specs.Phase.{phase_of};
+ghost use Rattle.rail_specs.specs.Rules.{step_at, traction_work};
+ghost use Rattle.rail_specs.specs.Step.{work};
+
+use drive_rules::Rules;
+use rail_specs::Phase;
+
+/// Whether a train that gains speed over step i from v0 to v1 can't be one faster: that is above its top, or its traction.
+fn is_fastest(rules: &Rules, i: usize, v0: u16, v1: u16) -> bool
+    requires step { i < length rules.now.steps }
+    requires gains { v0 < v1 }
+    requires exit { v1 ≤ 12000 }
+    ensures { result ≡ (nat_lt rules.now.top (v1 + 1) || int_lt (pos (traction_work rules.now i (v1 + 1))) (work (step_at rules.now i) v0 (v1 + 1))) }
+{
+    v1 + 1 > rules.top() || !rules.traction_reaches(i, v0, v1 + 1)
+}
+
+/// What the train does over step i from speed v0 to speed v1, in cm/s: the first phase that fits. It takes no memory.
+pub fn phase(rules: &Rules, i: usize, v0: u16, v1: u16) -> Phase
+    requires step { i < length rules.now.steps }
+    requires entry { v0 ≤ 12000 }
+    requires exit { v1 ≤ 12000 }
+    ensures { result ≡ phase_of rules.now i v0 v1 }
+{
+    if v1 == v0 {
+        return Phase::Hold;
+    }
+    if !rules.step_idle(i, v0, v1) {
+        if v0 < v1 && is_fastest(rules, i, v0, v1) {
+            Phase::Power
+        } else {
+            Phase::Part
+        }
+    } else if rules.row(i).short_work(v0, v1 + 1) > 0 {
+        Phase::Coast
+    } else {
+        Phase::Brake
+    }
+}

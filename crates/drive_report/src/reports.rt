@@ -1,0 +1,249 @@
+// The report of a drive.
+
+ghost use Rattle.std.specs.Prelude.{◌≡◌, ◌++◌, ◌∷◌, ℕ, ◌+◌, ◌<◌, ◌≤◌, ◌==◌, ◌^◌, List, length, pos, IfOk, OnOk, IsTrue, ◌↔◌, if◌then◌else◌, [], slice_index};
+ghost use Rattle.std.specs.Int.RustNames.{unsigned_abs};
+ghost use Rattle.std.specs.List.{flat_map};
+ghost use Rattle.rail_specs.specs.Rules.{IsDrive};
+ghost use Rattle.rail_specs.specs.Phase.{phase_at, phase_name};
+ghost use Rattle.rail_specs.specs.Report.{gap_line, speeds_line, kilojoules_of, ends_run, run_start, phase_line, phase_lines, time_line, energy_lines, report_text, drive_text as text_of_drive};
+
+use crate::lines::{put_head, put_line, put_number_line, put_spaced, put_word};
+use crate::phases::phase;
+use drive_rules::Rules;
+use rail_specs::{Phase, Timing};
+use std::alloc::{AllocError, Global};
+
+/// Appends the line of speeds, in cm/s, one for each point.
+#[tactic(auto, unfolding(rail_specs::specs::Report::speeds_line))]
+fn put_speeds(alloc: Global, out: &mut Vec<u8>, speeds: &[u16]) -> Result<(), AllocError>
+    ensures { OnOk result (out.new.items ≡ out.old.items ++ speeds_line speeds.now) }
+{
+    out.extend_from_slice(b"speeds")?;
+    for i in 0..speeds.len() {
+        put_spaced(alloc, out, speeds[i] as i128)?;
+    }
+    out.push(b'\n')?;
+    Ok(())
+}
+
+/// The least whole number of kilojoules that is at least an energy in 0.5 microjoule.
+fn kilojoules(energy: i128) -> i128
+    ensures { result ≡ kilojoules_of energy }
+{
+    if energy >= 0 {
+        (energy as u128).div_ceil(2_000_000_000) as i128
+    } else {
+        -((energy.unsigned_abs() / 2_000_000_000) as i128)
+    }
+}
+
+/// The name of a phase.
+fn name_of(phase: Phase) -> &'static [u8]
+    ensures { result.now ≡ phase_name phase }
+{
+    match phase {
+        Phase::Hold => b"hold",
+        Phase::Power => b"power",
+        Phase::Coast => b"coast",
+        Phase::Brake => b"brake",
+        Phase::Part => b"part",
+    }
+}
+
+/// The phase of step i of a drive.
+#[tactic(auto, unfolding(rail_specs::specs::Phase::phase_at))]
+fn phase_of_step(rules: &Rules, speeds: &[u16], i: usize) -> Phase
+    requires drive { IsDrive rules.now speeds.now }
+    requires step { i < length rules.now.steps }
+    ensures { result ≡ phase_at rules.now speeds.now i }
+{
+    rules.known_drive(speeds);
+    phase(rules, i, speeds[i], speeds[i + 1])
+}
+
+/// Whether step i is the last of a run of steps of one phase.
+#[tactic(auto, unfolding(rail_specs::specs::Report::ends_run))]
+fn is_last(rules: &Rules, speeds: &[u16], i: usize) -> bool
+    requires drive { IsDrive rules.now speeds.now }
+    requires step { i < length rules.now.steps }
+    ensures { result ≡ ends_run rules.now speeds.now i }
+{
+    i + 1 == rules.steps() || phase_of_step(rules, speeds, i) != phase_of_step(rules, speeds, i + 1)
+}
+
+/// Appends a space and the name of the phase of step i.
+fn put_name(out: &mut Vec<u8>, rules: &Rules, speeds: &[u16], i: usize) -> Result<(), AllocError>
+    requires drive { IsDrive rules.now speeds.now }
+    requires step { i < length rules.now.steps }
+    ensures { OnOk result (out.new.items ≡ out.old.items ++ 32 ∷ phase_name (phase_at rules.now speeds.now i)) }
+{
+    put_word(out, name_of(phase_of_step(rules, speeds, i)))
+}
+
+/// Appends the line of the run of steps of one phase that begins with step `from` and ends with step i.
+#[tactic(auto, unfolding(rail_specs::specs::Report::phase_line))]
+fn put_phase(
+    alloc: Global,
+    out: &mut Vec<u8>,
+    rules: &Rules,
+    speeds: &[u16],
+    from: usize,
+    i: usize,
+) -> Result<(), AllocError>
+    requires drive { IsDrive rules.now speeds.now }
+    requires from { from ≤ i }
+    requires step { i < length rules.now.steps }
+    ensures { OnOk result (out.new.items ≡ out.old.items ++ phase_line rules.now speeds.now from i) }
+{
+    out.extend_from_slice(b"phase")?;
+    put_spaced(alloc, out, rules.place(from) as i128)?;
+    put_spaced(alloc, out, rules.place(i + 1) as i128)?;
+    put_name(out, rules, speeds, i)?;
+    put_spaced(alloc, out, speeds[from] as i128)?;
+    put_spaced(alloc, out, speeds[i + 1] as i128)?;
+    out.push(b'\n')?;
+    Ok(())
+}
+
+/// Appends the line of the run that begins with step `from`, where step i ends it, and gives the first step of the next
+/// step's run.
+fn put_run(
+    alloc: Global,
+    out: &mut Vec<u8>,
+    rules: &Rules,
+    speeds: &[u16],
+    from: usize,
+    i: usize,
+) -> Result<usize, AllocError>
+    requires drive { IsDrive rules.now speeds.now }
+    requires from { from ≤ i }
+    requires step { i < length rules.now.steps }
+    ensures text { OnOk result (out.new.items ≡ out.old.items ++ (if ends_run rules.now speeds.now i then phase_line rules.now speeds.now from i else [])) }
+    ensures next { IfOk result (λ next. next ≡ (if ends_run rules.now speeds.now i then i + 1 else from)) }
+{
+    if !is_last(rules, speeds, i) {
+        return Ok(from);
+    }
+    put_phase(alloc, out, rules, speeds, from, i)?;
+    Ok(i + 1)
+}
+
+/// Appends a line for each longest run of steps of one phase.
+fn put_phases(
+    alloc: Global,
+    out: &mut Vec<u8>,
+    rules: &Rules,
+    speeds: &[u16],
+) -> Result<(), AllocError>
+    requires { IsDrive rules.now speeds.now }
+    ensures { OnOk result (out.new.items ≡ out.old.items ++ phase_lines rules.now speeds.now (length rules.now.steps)) }
+{
+    let mut from = 0;
+    for i in 0..rules.steps() {
+        from = put_run(alloc, out, rules, speeds, from, i)?;
+    }
+    Ok(())
+}
+
+/// Appends the line of a timing point.
+#[tactic(auto, unfolding(rail_specs::specs::Report::time_line))]
+fn put_time(
+    alloc: Global,
+    out: &mut Vec<u8>,
+    rules: &Rules,
+    speeds: &[u16],
+    at: Timing,
+) -> Result<(), AllocError>
+    requires drive { IsDrive rules.now speeds.now }
+    requires point { at.point ≤ length rules.now.steps }
+    ensures { OnOk result (out.new.items ≡ out.old.items ++ time_line rules.now speeds.now at) }
+{
+    out.extend_from_slice(b"time")?;
+    put_spaced(alloc, out, rules.place(at.point as usize) as i128)?;
+    put_spaced(alloc, out, rules.arrival(speeds, at.point as usize) as i128)?;
+    put_spaced(alloc, out, at.latest as i128)?;
+    out.push(b'\n')?;
+    Ok(())
+}
+
+/// Appends a line for each timing point.
+fn put_times(
+    alloc: Global,
+    out: &mut Vec<u8>,
+    rules: &Rules,
+    speeds: &[u16],
+) -> Result<(), AllocError>
+    requires { IsDrive rules.now speeds.now }
+    ensures { OnOk result (out.new.items ≡ out.old.items ++ flat_map (time_line rules.now speeds.now) rules.now.timings) }
+{
+    let timings = rules.timings();
+    for j in 0..timings.len() {
+        put_time(alloc, out, rules, speeds, timings[j])?;
+    }
+    Ok(())
+}
+
+/// Appends the line on the gap.
+#[tactic(auto, unfolding(rail_specs::specs::Report::gap_line))]
+fn put_gap(out: &mut Vec<u8>, met: bool) -> Result<(), AllocError>
+    ensures { OnOk result (out.new.items ≡ out.old.items ++ gap_line met) }
+{
+    put_line(out, if met { b"gap met" } else { b"gap open" })
+}
+
+/// Appends the lines of the energy and of the bound.
+fn put_energy(alloc: Global, out: &mut Vec<u8>, energy: i128, bound: i128) -> Result<(), AllocError>
+    ensures { OnOk result (out.new.items ≡ out.old.items ++ energy_lines energy bound) }
+{
+    put_number_line(alloc, out, b"energy", energy)?;
+    put_number_line(alloc, out, b"kilojoules", kilojoules(energy))?;
+    put_number_line(alloc, out, b"bound", bound)?;
+    Ok(())
+}
+
+/// The report of a drive: whether the gap between its energy and a bound is met, its energy, also in kilojoules, the bound, a
+/// line for each longest run of steps of one phase, a line for each timing point, and its speeds.
+///
+/// Energy and bound are in 0.5 microjoule, the speeds in cm/s, one for each point. The only error is want of memory.
+pub fn report(
+    alloc: Global,
+    rules: &Rules,
+    speeds: &[u16],
+    energy: i128,
+    bound: i128,
+    met: bool,
+) -> Result<Vec<u8>, AllocError>
+    requires { IsDrive rules.now speeds.now }
+    ensures { IfOk result (λ text. text.items ≡ report_text rules.now speeds.now energy bound met) }
+{
+    let mut out = Vec::new(alloc);
+    put_head(&mut out)?;
+    put_gap(&mut out, met)?;
+    put_energy(alloc, &mut out, energy, bound)?;
+    put_phases(alloc, &mut out, rules, speeds)?;
+    put_times(alloc, &mut out, rules, speeds)?;
+    put_speeds(alloc, &mut out, speeds)?;
+    put_line(&mut out, b"end")?;
+    Ok(out)
+}
+
+/// The text of a drive: its speeds in cm/s, one for each point, its energy and a bound in 0.5 microjoule, and whether
+/// the gap between them is met.
+pub fn drive_text(
+    alloc: Global,
+    speeds: &[u16],
+    energy: i128,
+    bound: i128,
+    met: bool,
+) -> Result<Vec<u8>, AllocError>
+    ensures { IfOk result (λ text. text.items ≡ text_of_drive speeds.now energy bound met) }
+{
+    let mut out = Vec::new(alloc);
+    put_head(&mut out)?;
+    put_gap(&mut out, met)?;
+    put_number_line(alloc, &mut out, b"energy", energy)?;
+    put_number_line(alloc, &mut out, b"bound", bound)?;
+    put_speeds(alloc, &mut out, speeds)?;
+    put_line(&mut out, b"end")?;
+    Ok(out)
+}
