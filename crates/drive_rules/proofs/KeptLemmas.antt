@@ -123,11 +123,3 @@ moves_from_points r speeds s c h i l =
     let a = point_kept r speeds i (points i (omega (arith, c))) in
     let b = point_kept r speeds (i + 1) (points (i + 1) (omega (arith, c))) in
     s.moving i (slice_index speeds i) (slice_index speeds (i + 1)) l a.start a.later (b.later (omega arith))
-
--- a drive never stands still over a step
-pub moves_from_drive : (r : Rules) (speeds : List ℕ) → IsShaped r → IsDrive r speeds → Moves r speeds
-moves_from_drive r speeds s d i l =
-    s.moving i (slice_index speeds i) (slice_index speeds (i + 1)) l
-    (λ e. rw e d.start)
-    (λ p. d.points i p (omega (arith, d.count)))
-    (d.points (i + 1) (omega arith) (omega (arith, d.count)))

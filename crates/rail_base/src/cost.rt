@@ -4,11 +4,12 @@ ghost use Rattle.std.specs.Int.{int_max};
 ghost use Rattle.std.specs.Int.RustNames.{unsigned_abs};
 ghost use Rattle.rail_specs.specs.Cost.{Grows, StaysWithin};
 
-/// A cost of a step's work.
+/// A cost of a step's work, in 0.5 microjoule.
 pub trait StepCost {
     /// The cost of work.
     ghost cost: { Self → ℤ → ℤ };
 
+    /// The cost of this work. It takes no memory.
     fn of(&self, work: i128) -> i128
         requires { unsigned_abs work ≤ 2 ^ 100 }
         ensures { result ≡ cost self.now work };
@@ -20,7 +21,7 @@ pub trait StepCost {
     ghost within: { (s : Self) → StaysWithin (cost s) };
 }
 
-/// The cost of a train that gets nothing back from braking.
+/// The cost of a train that gets nothing back from braking: the work where it is positive, and else nothing.
 #[derive(Clone, Copy)]
 pub struct Traction;
 

@@ -13,3 +13,4 @@ pub mod Phase
 pub mod Report
 pub mod Plan
 pub mod Words
+pub mod Grid

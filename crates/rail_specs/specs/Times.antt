@@ -1,5 +1,5 @@
 -- The times of a drive, and what on time and late mean.
-use Rattle.std.specs.Prelude.{ℕ, suc, zero, ◌+◌, ◌<◌, ◌≤◌, ℤ, pos, ◌-ℤ◌, ◌≤ℤ◌, ◌<ℤ◌, List, length, slice_index, All}
+use Rattle.std.specs.Prelude.{ℕ, suc, zero, ◌+◌, ◌<◌, ℤ, pos, ◌-ℤ◌, ◌≤ℤ◌, ◌<ℤ◌, List, length, slice_index, All}
 use Rattle.rail_specs.specs.Step.{lower_time, upper_time}
 use Rattle.rail_specs.specs.Rules.{Rules, step_at, timing_at, IsDrive}
 

@@ -1,5 +1,5 @@
-//! One step's numbers, ready for its work.
-ghost use Rattle.std.specs.Prelude.{◌≡◌, ℕ, ◌+◌, ◌*◌, ◌^◌, ◌<◌, ◌≤◌, ◌↔◌, ℤ, pos, ◌-ℤ◌, ◌≤ℤ◌, IfOk, IsErr};
+//! One step of a line, ready for its work.
+ghost use Rattle.std.specs.Prelude.{◌≡◌, ℕ, ◌+◌, ◌*◌, ◌^◌, ◌<◌, ◌≤◌, ◌↔◌, ℤ, pos, ◌-ℤ◌, ◌≤ℤ◌, IfOk, OnOk, IsErr};
 ghost use Rattle.std.specs.Int.RustNames.{unsigned_abs};
 ghost use Rattle.rail_specs.specs.Step.{work, work_up, work_down, gradient_work, IsInRange, HasSmallDrag};
 
@@ -55,13 +55,14 @@ fn climb(numbers: &StepNumbers) -> i64
 }
 
 impl StepRow {
-    /// The row of a step. It counts one step.
+    /// The row of a step, or `DragTooGreat` exactly where `C x >= 10000 me`. It counts one step, on a refusal too, and takes no memory.
     pub fn make<L: Ledger>(
         numbers: StepNumbers,
         steps: &mut Steps<L>,
     ) -> Result<StepRow, DragTooGreat>
         requires { IsInRange numbers }
         ensures made { IfOk result (λ row. row ≡ numbers) }
+        ensures small_drag { OnOk result (HasSmallDrag numbers) }
         ensures refused { IsErr result ↔ (10000 * numbers.inertia ≤ numbers.c * numbers.metres) }
         ensures counted { steps.new ≡ steps.old + 1 }
     {
@@ -163,6 +164,7 @@ impl StepRow {
         let _ = &self.numbers;
     }
 
+    /// The length of the step, m.
     pub fn metres(&self) -> u16
         ensures value { result ≡ self.now.metres }
         ensures some { 1 ≤ result }
