@@ -1,11 +1,12 @@
 -- What the text of a route means: its data, or the first line that is refused, and the rules of the data.
-use Rattle.std.specs.Prelude.{ℕ, ◌+◌, ◌-◌, ◌*◌, ◌==◌, ◌&&◌, ℤ, pos, negsuc, Bool, true, false, List, [], ◌∷◌, ◌++◌, Option, Some, None, Result, Ok, Err, if◌then◌else◌, nat_lt, length, take, drop, map, replicate, codes}
+use Rattle.std.specs.Prelude.{filter, ℕ, ◌+◌, ◌*◌, ◌&&◌, ℤ, pos, negsuc, Bool, true, false, List, [], ◌∷◌, ◌++◌, Option, Some, None, Result, Ok, Err, if◌then◌else◌, nat_lt, length, drop, map, replicate, codes}
 use Rattle.std.specs.Int.RustNames.{int_le, unsigned_abs}
+use Rattle.std.specs.Str.{bytes_eq}
 use Rattle.std.specs.Str.Lines.{lines}
 use Rattle.rail_specs.specs.declared.RouteFault.{RouteFault}
 use Rattle.rail_specs.specs.declared.RouteFault.TheVariants.{Form, Range, TooManySteps}
 use Rattle.rail_specs.specs.declared.StepNumbers.{StepNumbers}
-use Rattle.rail_specs.specs.First.{first_below}
+use Rattle.rail_specs.specs.First.{first_in}
 use Rattle.rail_specs.specs.Lines.{line_at, is_line, begins, numbers_after, numbers_at, number, size}
 use Rattle.rail_specs.specs.Rules.{Rules}
 
@@ -57,11 +58,11 @@ is_one low high ns = is_within (pos low) (pos high) (number ns 0)
 abbrev pub is_step : List ℤ → Bool
 is_step ns = is_within (pos 1) (pos 1000) (number ns 0) && is_within (negsuc 999) (pos 1000) (number ns 1) && is_within (pos 1) (pos 12000) (number ns 2)
 
--- a step's numbers are in range, and the drag over the step is below the train's kinetic energy
-abbrev pub is_light_step : Option (List ℤ) → List ℤ → Bool
-is_light_step train ns = is_step ns && nat_lt (size train 4 * size (Some ns) 0) (10000 * size train 1)
+-- a step's numbers are in range, and the drag over the step is below the kinetic energy of a train with this inertia mass and coefficient c
+abbrev pub is_light_step : ℕ → ℕ → List ℤ → Bool
+is_light_step inertia c ns = is_step ns && nat_lt (c * unsigned_abs (number ns 0)) (10000 * inertia)
 
--- the numbers of each line of the heading
+-- the numbers of the lines before the steps
 abbrev pub train_line : List (List ℕ) → Option (List ℤ)
 train_line ls = numbers_at ls 2 (codes "train ") 5
 
@@ -77,39 +78,47 @@ brake_line ls = numbers_at ls 5 (codes "brake ") 1
 abbrev pub latest_line : List (List ℕ) → Option (List ℤ)
 latest_line ls = numbers_at ls 6 (codes "latest ") 1
 
--- the fault of a line n that is neither of the heading nor behind the end: it is a step, of which there are at most 4,000,
--- or the end, with at least two steps before it
-abbrev pub entry_fault : Option (List ℤ) → ℕ → List ℕ → Option RouteFault
-entry_fault train n line =
-    if begins (codes "step ") line then
-    (if nat_lt 4006 n then Some TooManySteps else form_then_range n (numbers_after (codes "step ") 3 line) (is_light_step train))
-    else if is_line (codes "end") (Some line) then (if nat_lt n 9 then Some (Range n) else None) else Some (Form n)
+-- the faults of the lines before the steps, one for each line in order; a line that is missing isn't of its form
+abbrev pub heading_faults : List (List ℕ) → List (Option RouteFault)
+heading_faults ls =
+    (if is_line (codes "route 1") (line_at ls 1) then None else Some (Form 1))
+    ∷ form_then_range 2 (train_line ls) is_train
+    ∷ form_then_range 3 (top_line ls) (is_one 1 12000)
+    ∷ form_then_range 4 (traction_line ls) (is_one 0 2000000)
+    ∷ form_then_range 5 (brake_line ls) (is_one 0 2000000)
+    ∷ form_then_range 6 (latest_line ls) (is_one 0 172800)
+    ∷ []
 
--- a line that is missing isn't of its form
-abbrev pub present : ℕ → Option (List ℕ) → (List ℕ → Option RouteFault) → Option RouteFault
-present n None fault = Some (Form n)
-present n (Some line) fault = fault line
+-- a line begins as a step does
+abbrev pub is_step_line : List ℕ → Bool
+is_step_line line = begins (codes "step ") line
 
--- a line behind the end isn't of the form
-abbrev pub absent : ℕ → Option (List ℕ) → Option RouteFault
-absent n None = None
-absent n (Some line) = Some (Form n)
+-- the fault of line n that begins as a step does: it is one too many, not of its form, or out of range
+abbrev pub step_fault : ℕ → ℕ → ℕ → List ℕ → Option RouteFault
+step_fault inertia c n line =
+    if nat_lt 4006 n then Some TooManySteps else form_then_range n (numbers_after (codes "step ") 3 line) (is_light_step inertia c)
 
--- the fault of the line with this number
-abbrev pub line_fault : List (List ℕ) → ℕ → Option RouteFault
-line_fault ls n =
-    if n == 1 then (if is_line (codes "route 1") (line_at ls 1) then None else Some (Form 1))
-    else if n == 2 then form_then_range 2 (train_line ls) is_train
-    else if n == 3 then form_then_range 3 (top_line ls) (is_one 1 12000)
-    else if n == 4 then form_then_range 4 (traction_line ls) (is_one 0 2000000)
-    else if n == 5 then form_then_range 5 (brake_line ls) (is_one 0 2000000)
-    else if n == 6 then form_then_range 6 (latest_line ls) (is_one 0 172800)
-    else if is_line (codes "end") (line_at ls (n - 1)) then absent n (line_at ls n)
-    else present n (line_at ls n) (entry_fault (train_line ls) n)
+-- the fault of line n that is the end: there are fewer than two steps before it
+abbrev pub end_fault : ℕ → Option RouteFault
+end_fault n = if nat_lt n 9 then Some (Range n) else None
 
--- the fault of the first line that has one; the line after the last counts as missing
-abbrev pub first_fault : List (List ℕ) → Option RouteFault
-first_fault ls = first_below (λ i. line_fault ls (i + 1)) (length ls + 1)
+-- the faults of the lines from line n on, where they stand behind the end: no line does
+abbrev pub behind_faults : ℕ → List (List ℕ) → List (Option RouteFault)
+behind_faults n [] = []
+behind_faults n (line ∷ ls) = Some (Form n) ∷ []
+
+-- the faults of the lines from line n on, where the steps begin at line 7: they are steps, and then the end; a line that is missing
+-- isn't of its form
+abbrev pub entry_faults : ℕ → ℕ → ℕ → List (List ℕ) → List (Option RouteFault)
+entry_faults inertia c n [] = Some (Form n) ∷ []
+entry_faults inertia c n (line ∷ ls) =
+    if is_step_line line then step_fault inertia c n line ∷ entry_faults inertia c (n + 1) ls
+    else if bytes_eq line (codes "end") then end_fault n ∷ behind_faults (n + 1) ls
+    else Some (Form n) ∷ []
+
+-- the faults of all lines, in order
+abbrev pub line_faults : List (List ℕ) → List (Option RouteFault)
+line_faults ls = heading_faults ls ++ entry_faults (size (train_line ls) 1) (size (train_line ls) 4) 7 (drop 6 ls)
 
 -- ---- what lines without a fault say
 
@@ -122,7 +131,11 @@ step_of (Some ns) = record { metres = unsigned_abs (number ns 0); gradient = num
 abbrev pub step_on : List ℕ → RouteStep
 step_on line = step_of (numbers_after (codes "step ") 3 line)
 
--- the route of lines: the steps stand from line 7 to the line before the last, which is the end
+-- the steps on the lines that begin as one does
+abbrev pub steps_on : List (List ℕ) → List RouteStep
+steps_on ls = map step_on (filter is_step_line ls)
+
+-- the route on lines
 abbrev pub route_in : List (List ℕ) → Route
 route_in ls = record {
   mass = size (train_line ls) 0;
@@ -134,7 +147,7 @@ route_in ls = record {
   traction = size (traction_line ls) 0;
   brake = size (brake_line ls) 0;
   latest = size (latest_line ls) 0;
-  steps = map step_on (take (length ls - 7) (drop 6 ls));
+  steps = steps_on (drop 6 ls);
 }
 
 -- a value, or the fault that stands before it
@@ -144,7 +157,7 @@ unless (Some fault) x = Err fault
 
 -- what the text of a route says, or the fault of its first line that has one
 abbrev pub route_of : List ℕ → Result Route RouteFault
-route_of text = unless (first_fault (lines text)) (route_in (lines text))
+route_of text = unless (first_in (line_faults (lines text))) (route_in (lines text))
 
 -- ---- the rules of a route
 
@@ -152,10 +165,10 @@ route_of text = unless (first_fault (lines text)) (route_in (lines text))
 abbrev pub step_numbers : Route → RouteStep → StepNumbers
 step_numbers r s = record { mass = r.mass; inertia = r.inertia; a = r.a; b = r.b; c = r.c; metres = s.metres; gradient = s.gradient }
 
--- the places of the points over steps of these lengths, where the first point is at this place
-abbrev pub places_from : ℕ → List ℕ → List ℕ
-places_from place [] = place ∷ []
-places_from place (x ∷ xs) = place ∷ places_from (place + x) xs
+-- the places at the ends of steps of these lengths, where the first of them begins at this place
+abbrev pub ends_from : ℕ → List ℕ → List ℕ
+ends_from place [] = []
+ends_from place (x ∷ xs) = (place + x) ∷ ends_from (place + x) xs
 
 -- the rules of a route: from a standstill at place 0, with constant forces, to a stop at the last point, which has the latest time
 abbrev pub rules_of_route : Route → Rules
@@ -168,7 +181,7 @@ rules_of_route r =
       brake = replicate (r.top + 1) r.brake;
       steps = map (step_numbers r) r.steps;
       limits = map (λ s. s.limit) r.steps;
-      places = places_from 0 (map (λ s. s.metres) r.steps);
+      places = 0 ∷ ends_from 0 (map (λ s. s.metres) r.steps);
       stops = replicate n false ++ true ∷ [];
       dwells = replicate (n + 1) 0;
       timings = record { point = n; latest = pos (1000 * r.latest) } ∷ [];

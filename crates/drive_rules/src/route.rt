@@ -1,0 +1,66 @@
+//! Routes: the rules of a run as one text says them.
+//!
+//! The lines of the text are, each with its fields parted by one space:
+//!
+//! | line | fields | ranges |
+//! |---|---|---|
+//! | `route 1` | exactly so | |
+//! | `train` | mass, inertia mass, A, B, C | as `StepNumbers` has them |
+//! | `top` | top speed, cm/s | 1 to 12,000 |
+//! | `traction` | force at every speed up to the top, N | 0 to 2,000,000 |
+//! | `brake` | force at every speed up to the top, N | 0 to 2,000,000 |
+//! | `latest` | latest time at the last point, s | 0 to 172,800 |
+//! | `step`, two to 4,000 times | length in m, gradient in 1/10 per mille, limit in cm/s | as `StepNumbers` has them, limit 1 to 12,000 |
+//! | `end` | none | |
+//!
+//! A number is an optional `-` and 1 to 18 decimal digits. Lines end with a line feed, or a carriage return and a line
+//! feed; the last may have no end.
+
+ghost use Rattle.std.specs.Prelude.{◌≡◌, ◌≢◌, ◌+◌, ◌≤◌, length, count_by, IfOk};
+ghost use Rattle.std.specs.Str.Lines.{lines};
+ghost use Rattle.rail_specs.specs.Route.{is_step_line, rules_of_text};
+
+pub(crate) mod data;
+pub(crate) mod entries;
+pub(crate) mod heading;
+pub(crate) mod line;
+pub(crate) mod making;
+
+use crate::route::entries::read_steps;
+use crate::route::heading::read_heading;
+use crate::route::making::make_rules;
+use crate::rules::Rules;
+use rail_base::text_lines;
+use rail_specs::RouteFault;
+use std::alloc::Global;
+use std::sync::ledger::Ledger;
+use step_energy::Steps;
+
+/// The rules of a route's text: from a standstill at place 0 over its steps to a stop at the last point, which is the
+/// one timing point.
+///
+/// The first line that is not as it should be is the refusal, lines counted from 1: `Form` where it is missing or not
+/// of its form, or stands behind the end; `Range` where it is of its form and a number on it is out of range, where a
+/// step's drag is too great for the train, or where it is the end with fewer than two steps before it; `TooManySteps`
+/// where it begins as a 4,001st step does. `NoMemory` may come at any place.
+///
+/// It counts one step for each step line that it makes a row of, so on `Ok` as many as the route has.
+pub fn read_route<L: Ledger>(
+    alloc: Global,
+    text: &[u8],
+    steps: &mut Steps<L>,
+) -> Result<Rules, RouteFault>
+    ensures rules { result ≢ Err RouteFault.NoMemory → result ≡ rules_of_text text.now }
+    ensures counted { IfOk result (λ rules. steps.new ≡ steps.old + length rules.steps) }
+    ensures least { steps.old ≤ steps.new }
+    ensures most { steps.new ≤ steps.old + count_by is_step_line (lines text.now) }
+{
+    let mut lines = text_lines(text);
+    let heading = read_heading(&mut lines)?;
+    let lists = read_steps(alloc, &heading.train, lines, steps)?;
+    let rules = make_rules(alloc, &heading, lists)?;
+    Ok(rules)
+}
+
+#[cfg(test)]
+mod tests;

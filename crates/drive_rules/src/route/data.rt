@@ -1,0 +1,52 @@
+//! What the lines of a route say.
+
+use step_energy::StepRow;
+
+/// The numbers of a route's train.
+#[derive(Clone, Copy)]
+pub(crate) struct TrainNumbers {
+    pub mass: u32,
+    pub inertia: u32,
+    pub a: u32,
+    pub b: u32,
+    pub c: u32,
+}
+
+/// What a route says before its steps.
+#[derive(Clone, Copy)]
+pub(crate) struct Heading {
+    pub train: TrainNumbers,
+    /// The top speed, cm/s.
+    pub top: u16,
+    /// The force at every speed, N.
+    pub traction: u32,
+    /// The force at every speed, N.
+    pub brake: u32,
+    /// The latest time at the last point, s.
+    pub latest: u32,
+}
+
+/// A step, as its line says it of the route's train.
+#[derive(Clone, Copy)]
+pub(crate) struct StepLine {
+    pub row: StepRow,
+    /// The speed limit, cm/s.
+    pub limit: u16,
+}
+
+/// What a line behind the heading says.
+#[derive(Clone, Copy)]
+pub(crate) enum Entry {
+    Step(StepLine),
+    End,
+}
+
+/// The steps that were read: per step its row and its limit, per point its place.
+#[derive(Drop)]
+pub(crate) struct StepLists {
+    pub rows: Vec<StepRow>,
+    pub limits: Vec<u16>,
+    pub places: Vec<u32>,
+    /// The place of the last point.
+    pub end: u32,
+}
