@@ -178,8 +178,7 @@ impl<'a> Bounds<'a> {
         ensures value { result ≡ held self.now.rules i speed }
         ensures small { unsigned_abs result ≤ 2 ^ 61 }
     {
-        let most = self.rules.row(i).force_work(self.rules.brake().at(speed));
-        self.down(i, speed) - most
+        self.down(i, speed) - self.most_braking(i, speed)
     }
 
     /// Whether the levels at the two ends of step i keep its rules.
