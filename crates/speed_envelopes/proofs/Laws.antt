@@ -1,40 +1,87 @@
--- Drives taken together, and their times.
-use Rattle.std.proofs.Common.{ℕ, zero, suc, ◌≤◌, ◌<◌, ◌+◌, inl, inr, arith}
+-- The greater and the lesser of two drives are drives.
+use Rattle.std.proofs.Common.{ℕ, ◌≤◌, ◌≡◌, ◌+◌, ◌∙◌, List, get_or, max, min, inl, inr, arith}
 use Rattle.std.specs.Prelude.{slice_index}
+use Rattle.std.proofs.lemmas.Int.{ints}
 use Rattle.std.proofs.lemmas.Bool.{cases_lt}
-use Rattle.rail_specs.specs.Rules.{is_stop}
-use Rattle.rail_specs.specs.Times.{sum_below}
-use Rattle.speed_envelopes.specs.Closure.{GreaterIsDrive}
-use Rattle.speed_envelopes.proofs.Closed.{TractionKept-eased, BrakeKept-eased}
-use Rattle.speed_envelopes.proofs.Caps.{by_stop, on_stop, off_stop}
+use Rattle.drive_rules.specs.Shaped.{IsShaped}
+use Rattle.speed_envelopes.specs.Bounds.{Setting}
+use Rattle.speed_envelopes.specs.Levels.{IsLevelStep}
+use Rattle.speed_envelopes.specs.Closure.{GreaterIsDrive, LesserIsDrive, GreaterIsNarrowDrive, LesserIsNarrowDrive}
+use Rattle.speed_envelopes.specs.declared.bounds.End.TheVariants.{Exit, Entry}
+use Rattle.speed_envelopes.proofs.Parts.{asks-rises, gives-rises}
+use Rattle.speed_envelopes.proofs.Drives.{greatest_of, capped_drive, levels_of_drive, drive_of_levels, narrow_drive}
 
-pub greater_is_drive : GreaterIsDrive
-greater_is_drive r a b c s d e g = record {
-  count = omega (arith, g.count, d.count);
-  start = omega (arith, g.each 0, d.start, e.start);
-  points = λ k l m.
-      let p = d.points k l (omega (arith, g.count)) in
-      let q = e.points k l (omega (arith, g.count, d.count, e.count)) in
-      by_stop (is_stop r k) (slice_index c k)
-      (λ h. omega (arith, g.each k, on_stop (is_stop r k) (slice_index a k) p h, on_stop (is_stop r k) (slice_index b k) q h))
-      (λ h. omega (arith, g.each k, off_stop (is_stop r k) (slice_index a k) p h));
-  steps = λ i l.
-      let p = d.steps i l in
-      let q = e.steps i l in
-      record {
-        limit = (omega (arith, g.each i, p.limit.0, q.limit.0), omega (arith, g.each (i + 1), p.limit.1, q.limit.1));
-        top = (omega (arith, g.each i, p.top.0, q.top.0), omega (arith, g.each (i + 1), p.top.1, q.top.1));
-        traction = elim (cases_lt (slice_index a (i + 1)) (slice_index b (i + 1))) [
-          | inl x ↦ TractionKept-eased r i (slice_index b i) (slice_index c i) (slice_index b (i + 1)) (slice_index c (i + 1)) s l (omega (arith, g.each i)) (omega (arith, g.each (i + 1))) q.traction
-          | inr x ↦ TractionKept-eased r i (slice_index a i) (slice_index c i) (slice_index a (i + 1)) (slice_index c (i + 1)) s l (omega (arith, g.each i)) (omega (arith, g.each (i + 1))) p.traction
-        ];
-        brake = elim (cases_lt (slice_index a i) (slice_index b i)) [
-          | inl x ↦ BrakeKept-eased r i (slice_index b i) (slice_index c i) (slice_index b (i + 1)) (slice_index c (i + 1)) s l (omega (arith, g.each i)) (omega (arith, g.each (i + 1))) q.brake
-          | inr x ↦ BrakeKept-eased r i (slice_index a i) (slice_index c i) (slice_index a (i + 1)) (slice_index c (i + 1)) s l (omega (arith, g.each i)) (omega (arith, g.each (i + 1))) p.brake
-        ];
-      };
+greater_step : (s : Setting) (i : ℕ) (a b c : List ℕ) → IsShaped s.rules → ((k : ℕ) → get_or c k 0 ≡ max (get_or a k 0) (get_or b k 0)) → IsLevelStep s a i → IsLevelStep s b i → IsLevelStep s c i
+greater_step s i a b c h m p q = record {
+  exit = elim (cases_lt (get_or a (i + 1) 0) (get_or b (i + 1) 0)) [
+    | inl less ↦ (let e : get_or c (i + 1) 0 ≡ get_or b (i + 1) 0 = omega (arith, m (i + 1)) in
+        rw e (omega (arith, ints, q.exit, gives-rises s Exit i (get_or b i 0) (get_or c i 0) h (omega (arith, m i)))))
+    | inr more ↦ (let e : get_or c (i + 1) 0 ≡ get_or a (i + 1) 0 = omega (arith, m (i + 1)) in
+        rw e (omega (arith, ints, p.exit, gives-rises s Exit i (get_or a i 0) (get_or c i 0) h (omega (arith, m i)))))
+  ];
+  entry = elim (cases_lt (get_or a i 0) (get_or b i 0)) [
+    | inl less ↦ (let e : get_or c i 0 ≡ get_or b i 0 = omega (arith, m i) in
+        rw e (omega (arith, ints, q.entry, gives-rises s Entry i (get_or b (i + 1) 0) (get_or c (i + 1) 0) h (omega (arith, m (i + 1))))))
+    | inr more ↦ (let e : get_or c i 0 ≡ get_or a i 0 = omega (arith, m i) in
+        rw e (omega (arith, ints, p.entry, gives-rises s Entry i (get_or a (i + 1) 0) (get_or c (i + 1) 0) h (omega (arith, m (i + 1))))))
+  ];
 }
 
-pub sum_below-le : (f g : ℕ → ℕ) (n : ℕ) → ((i : ℕ) → i < n → f i ≤ g i) → sum_below f n ≤ sum_below g n
-sum_below-le f g zero h = omega arith
-sum_below-le f g (suc n) h = omega (arith, sum_below-le f g n (λ i l. h i (omega arith)), h n (omega arith))
+lesser_step : (s : Setting) (i : ℕ) (a b c : List ℕ) → IsShaped s.rules → ((k : ℕ) → get_or c k 0 ≡ min (get_or a k 0) (get_or b k 0)) → IsLevelStep s a i → IsLevelStep s b i → IsLevelStep s c i
+lesser_step s i a b c h m p q = record {
+  exit = elim (cases_lt (get_or a i 0) (get_or b i 0)) [
+    | inl less ↦ (let e : get_or c i 0 ≡ get_or a i 0 = omega (arith, m i) in
+        rw e (omega (arith, ints, p.exit, asks-rises s Exit i (get_or c (i + 1) 0) (get_or a (i + 1) 0) h (omega (arith, m (i + 1))))))
+    | inr more ↦ (let e : get_or c i 0 ≡ get_or b i 0 = omega (arith, m i) in
+        rw e (omega (arith, ints, q.exit, asks-rises s Exit i (get_or c (i + 1) 0) (get_or b (i + 1) 0) h (omega (arith, m (i + 1))))))
+  ];
+  entry = elim (cases_lt (get_or a (i + 1) 0) (get_or b (i + 1) 0)) [
+    | inl less ↦ (let e : get_or c (i + 1) 0 ≡ get_or a (i + 1) 0 = omega (arith, m (i + 1)) in
+        rw e (omega (arith, ints, p.entry, asks-rises s Entry i (get_or c i 0) (get_or a i 0) h (omega (arith, m i)))))
+    | inr more ↦ (let e : get_or c (i + 1) 0 ≡ get_or b (i + 1) 0 = omega (arith, m (i + 1)) in
+        rw e (omega (arith, ints, q.entry, asks-rises s Entry i (get_or c i 0) (get_or b i 0) h (omega (arith, m i)))))
+  ];
+}
+
+pub greater_is_narrow_drive : GreaterIsNarrowDrive
+greater_is_narrow_drive r n a b c s d e g =
+    let p = capped_drive r n a s d in
+    let q = capped_drive r n b s e in
+    let x = levels_of_drive r n a s d in
+    let y = levels_of_drive r n b s e in
+    let top : (k : ℕ) → slice_index c k ≤ r.top = λ k. omega (arith, g.each k, p.top k, q.top k) in
+    drive_of_levels r n c s record {
+      count = g.count ∙ p.count;
+      start = omega (arith, g.each 0, p.start, q.start);
+      stops = λ k l m. omega (arith, g.each k, p.stops k l m, q.stops k l m);
+      limits = λ i l. (omega (arith, g.each i, (p.limits i l).0, (q.limits i l).0), omega (arith, g.each (i + 1), (p.limits i l).1, (q.limits i l).1));
+      top = top;
+      cap = λ k. omega (arith, g.each k, p.cap k, q.cap k);
+    } record {
+      floored = record { count = g.count ∙ p.count; floors = λ k l. omega (arith, g.each k, x.floored.floors k l); top = top };
+      steps = λ i l. greater_step (greatest_of r n) i a b c s g.each (x.steps i l) (y.steps i l);
+    }
+
+pub lesser_is_narrow_drive : LesserIsNarrowDrive
+lesser_is_narrow_drive r n a b c s d e g =
+    let p = capped_drive r n a s d in
+    let x = levels_of_drive r n a s d in
+    let y = levels_of_drive r n b s e in
+    let below : (k : ℕ) → slice_index c k ≤ slice_index a k = λ k. omega (arith, g.each k) in
+    drive_of_levels r n c s record {
+      count = g.count ∙ p.count;
+      start = omega (arith, below 0, p.start);
+      stops = λ k l m. omega (arith, below k, p.stops k l m);
+      limits = λ i l. (omega (arith, below i, (p.limits i l).0), omega (arith, below (i + 1), (p.limits i l).1));
+      top = λ k. omega (arith, below k, p.top k);
+      cap = λ k. omega (arith, below k, p.cap k);
+    } record {
+      floored = record { count = g.count ∙ p.count; floors = λ k l. omega (arith, g.each k, x.floored.floors k l, y.floored.floors k l); top = λ k. omega (arith, below k, p.top k) };
+      steps = λ i l. lesser_step (greatest_of r n) i a b c s g.each (x.steps i l) (y.steps i l);
+    }
+
+pub greater_is_drive : GreaterIsDrive
+greater_is_drive r a b c s d e g = (greater_is_narrow_drive r _ a b c s (narrow_drive r a s d) (narrow_drive r b s e) g).drive
+
+pub lesser_is_drive : LesserIsDrive
+lesser_is_drive r a b c s d e g = (lesser_is_narrow_drive r _ a b c s (narrow_drive r a s d) (narrow_drive r b s e) g).drive
