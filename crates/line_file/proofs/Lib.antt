@@ -1,0 +1,6 @@
+pub mod Left
+pub mod Blank
+pub mod Reading
+pub mod Taking
+pub mod LineLemmas
+pub mod ServiceLemmas

@@ -1,0 +1,5 @@
+pub mod Rows
+pub mod LineText
+pub mod Adding
+pub mod ServiceText
+pub mod Serving
