@@ -4,3 +4,5 @@ pub mod Reading
 pub mod Taking
 pub mod LineLemmas
 pub mod ServiceLemmas
+pub mod LineShape
+pub mod ServiceShape

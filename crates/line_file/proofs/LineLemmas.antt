@@ -1,14 +1,14 @@
 -- The rows of a line, one by one.
-use Rattle.std.proofs.Common.{◌≡◌, ◌<◌, ◌≤◌, ◌+◌, ◌++◌, ◌∷◌, ◌∙◌, ℕ, List, [], Option, Some, None, Result, Ok, Err, length, take, drop, refl, sym, ap, arith}
+use Rattle.std.proofs.Common.{◌≡◌, ◌≤◌, ◌+◌, ◌++◌, ◌∷◌, ◌∙◌, ℕ, List, [], Option, Some, None, Err, length, take, drop, refl, sym, ap, arith}
 use Rattle.std.specs.Option.{option_or}
-use Rattle.std.proofs.lemmas.List.{length-take-le, take_all}
+use Rattle.std.proofs.lemmas.List.{length-take-le}
 use Rattle.std.proofs.lemmas.List.Elements.{filter_map-append}
 use Rattle.line_file.specs.Rows.{Fields}
 use Rattle.line_file.specs.Adding.{with_row}
 use Rattle.line_file.specs.LineText.{below_header, gradient_in, limit_in, line_from, row_fault, row_of, rows_fault, unless, whole_fault}
 use Rattle.line_file.specs.declared.line.Line.{Line}
 use Rattle.line_file.specs.declared.line.LineFault.{LineFault}
-use Rattle.line_file.proofs.Taking.{Taken, take-none, take-one}
+use Rattle.line_file.proofs.Taking.{take-none, take-one}
 
 line_from-push : (rows : List Fields) (r : Fields) → line_from (rows ++ r ∷ []) ≡ with_row (line_from rows) (row_of r)
 line_from-push rows r =

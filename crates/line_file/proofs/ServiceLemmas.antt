@@ -1,15 +1,15 @@
 -- The rows of a service, one by one.
-use Rattle.std.proofs.Common.{◌≡◌, ◌<◌, ◌≤◌, ◌+◌, ◌++◌, ◌∷◌, ◌∙◌, ℕ, List, [], Option, Some, None, Result, Ok, Err, length, take, drop, refl, sym, ap, arith}
+use Rattle.std.proofs.Common.{◌≡◌, ◌≤◌, ◌+◌, ◌++◌, ◌∷◌, ◌∙◌, ℕ, List, [], Option, Some, None, Err, length, take, drop, refl, sym, ap, arith}
 use Rattle.std.specs.Option.{option_or}
 use Rattle.std.specs.Result.{result_ok}
-use Rattle.std.proofs.lemmas.List.{length-take-le, take_all}
+use Rattle.std.proofs.lemmas.List.{length-take-le}
 use Rattle.std.proofs.lemmas.List.Elements.{filter_map-append}
 use Rattle.line_file.specs.Rows.{Fields}
 use Rattle.line_file.specs.Serving.{with_row}
 use Rattle.line_file.specs.ServiceText.{below_header, call_of, row_fault, rows_fault, service_from, unless, whole_fault}
 use Rattle.line_file.specs.declared.service.Service.{Service}
 use Rattle.line_file.specs.declared.service.ServiceFault.{ServiceFault}
-use Rattle.line_file.proofs.Taking.{Taken, take-none, take-one}
+use Rattle.line_file.proofs.Taking.{take-none, take-one}
 
 service_from-push : (rows : List Fields) (r : Fields) → service_from (rows ++ r ∷ []) ≡ with_row (service_from rows) (call_of r)
 service_from-push rows r =

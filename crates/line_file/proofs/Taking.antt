@@ -1,5 +1,5 @@
 -- A list that is taken item by item.
-use Rattle.std.proofs.Common.{◌≡◌, ◌<◌, ◌≤◌, ◌+◌, ◌++◌, ◌∷◌, ◌∙◌, ℕ, zero, suc, List, [], length, take, drop, refl, sym, ap, arith, add-one, drop-cons}
+use Rattle.std.proofs.Common.{◌≡◌, ◌<◌, ◌+◌, ◌++◌, ◌∷◌, ℕ, zero, suc, List, [], length, take, drop, refl, ap, arith, add-one}
 
 -- the item at n was taken of those that were left
 pub record Taken {A : Type 0} (all : List A) (n : ℕ) (x : A) (rest : List A) : Type 0 where

@@ -3,3 +3,4 @@ pub mod LineText
 pub mod Adding
 pub mod ServiceText
 pub mod Serving
+pub mod Shape

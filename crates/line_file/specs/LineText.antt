@@ -1,5 +1,5 @@
 -- What a line file says, or why a text is none.
-use Rattle.std.specs.Prelude.{◌==◌, ◌&&◌, ◌||◌, ◌+◌, ◌-◌, ◌*◌, ◌/◌, ◌++◌, ◌∷◌, Bool, true, false, ℕ, ℤ, pos, negsuc, List, [], Option, Some, None, Result, Ok, Err, if◌then◌else◌, length, nat_lt, not, codes, slice_index_or}
+use Rattle.std.specs.Prelude.{◌==◌, ◌&&◌, ◌||◌, ◌+◌, ◌-◌, ◌*◌, ◌/◌, ◌++◌, ◌∷◌, Bool, ℕ, ℤ, pos, negsuc, List, [], Option, Some, None, Result, Ok, Err, if◌then◌else◌, length, nat_lt, not, codes, slice_index_or}
 use Rattle.std.specs.Int.RustNames.{int_le, int_lt, unsigned_abs}
 use Rattle.std.specs.List.{filter_map}
 use Rattle.std.specs.Option.{option_or}

@@ -1,5 +1,5 @@
 -- What a service file says, or why a text is none.
-use Rattle.std.specs.Prelude.{◌==◌, ◌&&◌, ◌||◌, ◌+◌, ◌-◌, ◌++◌, ◌∷◌, Bool, true, false, ℕ, ℤ, pos, List, [], Option, Some, None, option_map, is_some, Result, Ok, Err, if◌then◌else◌, count_by, drop, length, nat_lt, not, codes, slice_index_or}
+use Rattle.std.specs.Prelude.{◌==◌, ◌&&◌, ◌||◌, ◌+◌, ◌-◌, ◌++◌, ◌∷◌, Bool, true, ℕ, ℤ, pos, List, [], Option, Some, None, option_map, is_some, Result, Ok, Err, if◌then◌else◌, count_by, drop, length, nat_lt, not, codes, slice_index_or}
 use Rattle.std.specs.Int.RustNames.{int_le, unsigned_abs}
 use Rattle.std.specs.List.{filter_map}
 use Rattle.std.specs.Option.{option_or}

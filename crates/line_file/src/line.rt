@@ -4,6 +4,7 @@ ghost use Rattle.std.specs.Prelude.{◌≡◌, ◌≢◌, ◌≤◌, ◌∷◌, 
 ghost use Rattle.csv.specs.Records.{fields_of};
 ghost use Rattle.line_file.specs.LineText.{below_header, follows, is_in_range, is_value, kept_value, kind_of, line_of, numbers_of, row_fault, row_from, row_of, whole_fault};
 ghost use Rattle.line_file.specs.Adding.{with_row};
+ghost use Rattle.line_file.specs.Shape.{IsLine};
 
 use crate::rows::{Rows, field, has_fields};
 use crate::sections::{Section, SectionList};
@@ -237,7 +238,8 @@ impl Line {
 
 /// Reads the rows below the header.
 fn read_rows(alloc: Global, rows: &mut Rows<'_>, row: &mut ByteRecord) -> Result<Line, LineFault>
-    ensures { result ≢ Err LineFault.NoMemory → result ≡ below_header rows.old }
+    ensures answer { result ≢ Err LineFault.NoMemory → result ≡ below_header rows.old }
+    ensures shape { IfOk result IsLine }
 {
     let mut line = Line {
         limits: SectionList::new(alloc),
@@ -263,7 +265,8 @@ fn read_rows(alloc: Global, rows: &mut Rows<'_>, row: &mut ByteRecord) -> Result
 /// The answer is the first fault: of the header, of each row in order, then of the whole. `NoMemory` may come at any
 /// place.
 pub fn read_line(alloc: Global, text: &[u8]) -> Result<Line, LineFault>
-    ensures { result ≢ Err LineFault.NoMemory → result ≡ line_of text.now }
+    ensures answer { result ≢ Err LineFault.NoMemory → result ≡ line_of text.now }
+    ensures shape { IfOk result IsLine }
 {
     let mut rows = Rows::new(alloc, text);
     let mut row = ByteRecord::new(alloc);

@@ -72,3 +72,47 @@ impl SectionList {
         Ok(SectionList { items })
     }
 }
+
+#[cfg(test)]
+mod tests {
+    use super::*;
+    use crate::calls::{Call, CallList};
+    use std::test::Fail;
+
+    #[test]
+    fn lists_are_changed(rt: HostRuntime) -> Result<(), Fail> {
+        let alloc = rt.alloc();
+        let section = Section {
+            from: 0,
+            to: 5,
+            value: -3,
+        };
+        let other = Section {
+            from: 5,
+            to: 9,
+            value: 4,
+        };
+        let mut sections = SectionList::new(alloc);
+        assert_eq!(rt; sections.items().len(), 0);
+        sections.push(section)?;
+        sections.push(section)?;
+        sections.set(1, other);
+        assert_eq!(rt; sections.items(), [section, other].as_slice());
+        let call = Call {
+            place: 0,
+            dwell: None,
+            latest: None,
+        };
+        let stop = Call {
+            place: 7,
+            dwell: Some(30),
+            latest: Some(60),
+        };
+        let mut calls = CallList::new(alloc);
+        calls.push(call)?;
+        calls.push(call)?;
+        calls.set(1, stop);
+        assert_eq!(rt; calls.items(), [call, stop].as_slice());
+        Ok(())
+    }
+}

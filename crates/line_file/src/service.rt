@@ -4,6 +4,7 @@ ghost use Rattle.std.specs.Prelude.{◌≡◌, ◌≢◌, ◌≤◌, ◌∷◌, 
 ghost use Rattle.std.specs.Int.RustNames.{unsigned_abs};
 ghost use Rattle.csv.specs.Records.{fields_of};
 ghost use Rattle.line_file.specs.Serving.{with_row};
+ghost use Rattle.line_file.specs.Shape.{IsService};
 ghost use Rattle.line_file.specs.ServiceText.{are_seconds, below_header, call_from, call_of, is_in_range, latest_count, numbers_of, optional_number, rises, row_fault, service_of, whole_fault};
 
 use crate::calls::{Call, CallList};
@@ -229,7 +230,8 @@ fn read_rows(
     rows: &mut Rows<'_>,
     row: &mut ByteRecord,
 ) -> Result<Service, ServiceFault>
-    ensures { result ≢ Err ServiceFault.NoMemory → result ≡ below_header rows.old }
+    ensures answer { result ≢ Err ServiceFault.NoMemory → result ≡ below_header rows.old }
+    ensures shape { IfOk result IsService }
 {
     let mut service = Service {
         calls: CallList::new(alloc),
@@ -254,7 +256,8 @@ fn read_rows(
 /// The answer is the first fault: of the header, of each row in order, then of the whole. `NoMemory` may come at any
 /// place.
 pub fn read_service(alloc: Global, text: &[u8]) -> Result<Service, ServiceFault>
-    ensures { result ≢ Err ServiceFault.NoMemory → result ≡ service_of text.now }
+    ensures answer { result ≢ Err ServiceFault.NoMemory → result ≡ service_of text.now }
+    ensures shape { IfOk result IsService }
 {
     let mut rows = Rows::new(alloc, text);
     let mut row = ByteRecord::new(alloc);

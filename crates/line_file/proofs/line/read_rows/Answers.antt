@@ -1,9 +1,8 @@
-use Rattle.std.proofs.Common.{◌≡◌, ◌∙◌, ◌∷◌, arith, ap, true, false, sym, refl, Some, None, Ok, Err}
+use Rattle.std.proofs.Common.{◌∙◌, ap, sym, refl, Err}
 use Rattle.std.proofs.lemmas.Result.{err_from_is_err_and}
 use Rattle.csv.specs.Records.{fields_of}
-use Rattle.line_file.specs.Rows.{TakesRow}
-use Rattle.line_file.specs.LineText.{unless, whole_fault}
 use Rattle.line_file.proofs.LineLemmas.{adds, adds-bad, adds-none}
+use Rattle.line_file.proofs.LineShape.{row-IsLineSoFar, whole-IsLine}
 use Rattle.line_file.proofs.line.read_rows.Goals as goal
 
 pub loop-line-preserved : goal.loop-line-preserved
@@ -19,10 +18,11 @@ loop-line-preserved c =
       left = a.left;
       line = ok.1 ∙ sym a.line;
       fault = m.fault ∙ rw taken (a.fault ∙ rw ok.0 refl);
+      shape = rw ok.1 (row-IsLineSoFar c.loop-line.line c.loop-line.n (fields_of c.next.new.row) m.shape ok.0);
     }
 
-pub returns-in_err-add_row : goal.returns-in_err-add_row
-returns-in_err-add_row c not_memory =
+pub returns-in_err-add_row-clause-answer : goal.returns-in_err-add_row-clause-answer
+returns-in_err-add_row-clause-answer c not_memory =
     let m = c.loop-line.invariant in
     let all = c.args.rows.now in
     let taken = rw c.if-branch.true at c.in_ok-next.ensures in
@@ -31,16 +31,20 @@ returns-in_err-add_row c not_memory =
     let bad = c.in_err-add_row.ensures.fault (λ e. not_memory (p.1 ∙ ap Err (p.2 ∙ e))) in
     p.1 ∙ ap Err p.2 ∙ sym (adds-bad all c.loop-line.n c.loop-line.line (fields_of c.next.new.row) c.next.new.self c.loop-line.rows c.in_err-add_row.field-0.0 a taken m.fault bad)
 
-pub returns-in-None : goal.returns-in-None
-returns-in-None c not_memory =
+pub returns-in-None-clause-answer : goal.returns-in-None-clause-answer
+returns-in-None-clause-answer c not_memory =
     let m = c.loop-line.invariant in
     let ended = rw c.if-branch.false at c.in_ok-next.ensures in
     let whole = adds-none c.args.rows.now c.loop-line.n c.loop-line.line c.loop-line.rows m.line m.left ended.0 m.fault in
     sym (whole ∙ rw (sym c.whole_fault.ensures ∙ c.in-None.is) refl)
 
-pub returns-in-Some : goal.returns-in-Some
-returns-in-Some c not_memory =
+pub returns-in-Some-clause-answer : goal.returns-in-Some-clause-answer
+returns-in-Some-clause-answer c not_memory =
     let m = c.loop-line.invariant in
     let ended = rw c.if-branch.false at c.in_ok-next.ensures in
     let whole = adds-none c.args.rows.now c.loop-line.n c.loop-line.line c.loop-line.rows m.line m.left ended.0 m.fault in
     sym (whole ∙ rw (sym c.whole_fault.ensures ∙ c.in-Some.is) refl)
+
+pub returns-in-None-clause-shape : goal.returns-in-None-clause-shape
+returns-in-None-clause-shape c =
+    whole-IsLine c.loop-line.line c.loop-line.n c.loop-line.invariant.shape c.loop-line.invariant.few (sym c.whole_fault.ensures ∙ c.in-None.is)
