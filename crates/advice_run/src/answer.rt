@@ -5,9 +5,8 @@ ghost use Rattle.rail_specs.specs.Report.{spaced};
 ghost use Rattle.advice_run.specs.Outcome.{IsRefusal, IsRouteAnswer, route_fault_words as words_of, read_fault_text as text_of_read_fault, usage_text as text_of_usage};
 
 use crate::plan::plan_answer;
-use drive_rules::Rules;
+use drive_rules::{RouteFault, read_route};
 use rail_base::put_number;
-use rail_specs::RouteFault;
 use std::alloc::{AllocError, Global};
 use std::sync::ledger::Ledger;
 use step_energy::Steps;
@@ -97,17 +96,4 @@ pub fn route_answer<L: Ledger>(
             refusal(alloc, b"route", words.as_slice())
         }
     }
-}
-
-ghost use Rattle.std.specs.Prelude.{◌≢◌, Err};
-ghost use Rattle.rail_specs.specs.Route.{rules_of_text};
-
-fn read_route<L: Ledger>(
-    alloc: Global,
-    text: &[u8],
-    steps: &mut Steps<L>,
-) -> Result<Rules, RouteFault>
-    ensures { result ≢ Err RouteFault.NoMemory → result ≡ rules_of_text text.now }
-{
-    Err(RouteFault::NoMemory)
 }

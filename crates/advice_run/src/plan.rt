@@ -9,7 +9,7 @@ use crate::answer::Answer;
 use drive_report::{drive_text, late_text, no_drive_text};
 use drive_rules::{Judged, LateAt, Rules};
 use rail_base::{Traction, is_gap_met};
-use speed_envelopes::greatest;
+use speed_envelopes::greatest_drive;
 use std::alloc::{AllocError, Global};
 
 /// The answer to the rules of a run, at a tolerance in per mille of the energy: the greatest drive where it is on time.
@@ -17,13 +17,13 @@ pub fn plan_answer(alloc: Global, rules: &Rules, tolerance: u32) -> Result<Answe
     requires { tolerance ≤ 1000 }
     ensures { IfOk result (λ a. IsPlanAnswer rules.now tolerance a.status a.text.items) }
 {
-    let Some(speeds) = greatest(alloc, rules)? else {
+    let Some(drive) = greatest_drive(alloc, rules)? else {
         let text = no_drive_text(alloc)?;
         return Ok(Answer { status: 4, text });
     };
-    match rules.first_late(speeds.as_slice()) {
-        Some(at) => late_answer(alloc, rules, speeds.as_slice(), at, tolerance),
-        None => drive_answer(alloc, rules, speeds.as_slice(), tolerance),
+    match rules.first_late(drive.speeds()) {
+        Some(at) => late_answer(alloc, rules, drive.speeds(), at, tolerance),
+        None => drive_answer(alloc, rules, drive.speeds(), tolerance),
     }
 }
 

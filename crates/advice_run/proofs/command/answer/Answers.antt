@@ -11,9 +11,9 @@ pub returns-in-Ok-clause-may : goal.returns-in-Ok-clause-may
 returns-in-Ok-clause-may g c =
     let told : List ℕ → Told = g.S.Shelf.contents c.args.shelf.now in
     let got : Fetches (told c.get.result.now) 1048577 c.as_slice.result.now =
-      subst (λ (xs : List ℕ). Fetches (told c.get.result.now) 1048577 xs) (sym c.as_slice.ensures.value) c.in-Ok.ensures.bytes in
+    subst (λ (xs : List ℕ). Fetches (told c.get.result.now) 1048577 xs) (sym c.as_slice.ensures.value) c.in-Ok.ensures.bytes in
     ok_map c.route_answer.result (λ (a : Answer). IsRouteAnswer c.as_slice.result.now a.status a.text.items)
     (λ (a : Answer). MayWrite (command_of c.args.words.now) told (g.S.Shelf.faults c.args.shelf.now) (g.S.Shelf.faults c.fetch.new.self) a.status a.text.items)
     (λ a h. route_may_write (command_of c.args.words.now) c.get.result.now told (g.S.Shelf.faults c.args.shelf.now) (g.S.Shelf.faults c.fetch.new.self) c.as_slice.result.now a.status a.text.items
-      (c.if-not-asks_route.ensures.yes ∙ ap Route (sym c.get.ensures)) got h)
+    (c.if-not-asks_route.ensures.yes ∙ ap Route (sym c.get.ensures)) got h)
     c.route_answer.ensures
