@@ -415,6 +415,30 @@ mod tests {
     }
 
     #[test]
+    fn quoted_headers_and_crlf_are_read(rt: HostRuntime) -> Result<(), Fail> {
+        let text =
+            b"\"kind\",\"from\",\"to\",\"value\"\r\nlimit,0,2000,60\r\nlimit,2000,38000,100\r\nlimit,38000,40000,60\r\ngradient,0,15000,30\r\ngradient,15000,25000,-40\r\ngradient,25000,40000,0\r\n";
+        let line = read_line(rt.alloc(), text).ok().ok_or("refused")?;
+        let limits = [
+            (0, 2_000, 1_666),
+            (2_000, 38_000, 2_777),
+            (38_000, 40_000, 1_666),
+        ];
+        let gradients = [(0, 15_000, 30), (15_000, 25_000, -40), (25_000, 40_000, 0)];
+        let kinds = [
+            (line.limits.items(), limits),
+            (line.gradients.items(), gradients),
+        ];
+        for (sections, numbers) in kinds {
+            assert_eq!(rt; sections.len(), 3);
+            for (section, (from, to, value)) in sections.iter().zip(numbers) {
+                assert_eq!(rt; *section, Section { from, to, value });
+            }
+        }
+        Ok(())
+    }
+
+    #[test]
     fn one_row_too_many_is_refused(rt: HostRuntime) -> Result<(), Fail> {
         let alloc = rt.alloc();
         let mut text = HEADER.to_vec(alloc)?;
