@@ -1,6 +1,6 @@
 -- A drive that is nowhere faster arrives nowhere earlier.
-use Rattle.std.proofs.Common.{ℕ, zero, suc, ◌≡◌, ◌<◌, ◌≤◌, ◌+◌, List, length, get_or, arith}
-use Rattle.std.specs.Prelude.{slice_index, pos, ◌≤ℤ◌}
+use Rattle.std.proofs.Common.{ℕ, zero, suc, ◌<◌, ◌≤◌, ◌+◌, List, length, arith}
+use Rattle.std.specs.Prelude.{slice_index}
 use Rattle.std.proofs.lemmas.Int.{ints}
 use Rattle.rail_specs.specs.Step.{upper_time}
 use Rattle.rail_specs.specs.Rules.{Rules, IsDrive, step_at, timing_at, no_timing}
