@@ -5,7 +5,7 @@ use Rattle.std.proofs.lemmas.Int.{ints}
 use Rattle.rail_specs.specs.Rules.{Rules, IsGreatestDrive, timing_at, work_at}
 use Rattle.rail_specs.specs.Times.{IsOnTimeUp, NoneOnTime, IsFirstLate, time_up}
 use Rattle.rail_specs.specs.Cost.{traction_cost, int_sum_below, cost_of, IsBound, GapMet}
-use Rattle.rail_specs.specs.Report.{drive_text, late_text}
+use Rattle.rail_specs.specs.Report.{late_text, report_text}
 use Rattle.rail_specs.specs.Plan.{IsPlanAnswer}
 
 not_negative : (z : ℤ) → pos 0 ≤ℤ traction_cost z
@@ -22,7 +22,7 @@ nothing_is_bound r speeds d t = sum_not_negative (work_at r speeds) (length r.st
 
 pub drive_answer : (r : Rules) (tolerance status : ℕ) (text speeds : List ℕ) (energy : ℤ) (met : Bool) → IsGreatestDrive r speeds → IsOnTimeUp r speeds
     → energy ≡ cost_of traction_cost r speeds → (IsTrue met ↔ GapMet energy (pos 0) tolerance) → status ≡ (if met then 0 else 1)
-    → text ≡ drive_text speeds energy (pos 0) met → IsPlanAnswer r tolerance status text
+    → text ≡ report_text r speeds energy (pos 0) met → IsPlanAnswer r tolerance status text
 drive_answer r tolerance status text speeds energy met g t e m s x = inr (inr (
   speeds,
   (

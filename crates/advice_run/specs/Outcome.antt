@@ -3,7 +3,7 @@ use Rattle.std.specs.Prelude.{ℕ, ◌≡◌, ◌≤◌, ◌++◌, ◌∷◌, Li
 use Rattle.rail_specs.specs.declared.RouteFault.{RouteFault}
 use Rattle.rail_specs.specs.declared.RouteFault.TheVariants.{Form, Range, TooManySteps, NoMemory}
 use Rattle.rail_specs.specs.Faults.{Rose, Told, Appends}
-use Rattle.rail_specs.specs.Words.{Command, Usage, Route}
+use Rattle.advice_run.specs.Words.{Command, Usage, Route}
 use Rattle.rail_specs.specs.Report.{line, spaced}
 use Rattle.rail_specs.specs.Route.{rules_of_text}
 use Rattle.rail_specs.specs.Rules.{Rules}
@@ -15,7 +15,7 @@ most_bytes = 1048576
 
 -- the text about usage: a line for each command
 abbrev pub usage_text : List ℕ
-usage_text = line (codes "usage: advice route FILE")
+usage_text = line (codes "usage: advice route FILE [--tolerance N]")
 
 -- a file or the rules are refused: whose fault it is, and the fault's words
 abbrev pub refused_text : List ℕ → List ℕ → List ℕ
@@ -37,15 +37,15 @@ pub record IsRefusal (role fault : List ℕ) (status : ℕ) (text : List ℕ) : 
   pub ends : status ≡ 3
   pub says : text ≡ refused_text role fault
 
--- the answer to a route that was read, or to its refusal, at a tolerance of 10 per mille
-abbrev pub IsReadAnswer : Result Rules RouteFault → ℕ → List ℕ → Type 0
-IsReadAnswer (Ok rules) status text = IsPlanAnswer rules 10 status text
-IsReadAnswer (Err fault) status text = IsRefusal (codes "route") (route_fault_words fault) status text
+-- the answer to a route that was read, at a tolerance in per mille, or to its refusal
+abbrev pub IsReadAnswer : ℕ → Result Rules RouteFault → ℕ → List ℕ → Type 0
+IsReadAnswer tolerance (Ok rules) status text = IsPlanAnswer rules tolerance status text
+IsReadAnswer tolerance (Err fault) status text = IsRefusal (codes "route") (route_fault_words fault) status text
 
 -- the answer to the bytes of a route file: a refusal of a file that is too long, or else the answer to what it says
-abbrev pub IsRouteAnswer : List ℕ → ℕ → List ℕ → Type 0
-IsRouteAnswer file status text =
-    MatchBool (nat_lt most_bytes (length file)) (IsRefusal (codes "route") (codes "too-long") status text) (IsReadAnswer (rules_of_text file) status text)
+abbrev pub IsRouteAnswer : ℕ → List ℕ → ℕ → List ℕ → Type 0
+IsRouteAnswer tolerance file status text =
+    MatchBool (nat_lt most_bytes (length file)) (IsRefusal (codes "route") (codes "too-long") status text) (IsReadAnswer tolerance (rules_of_text file) status text)
 
 -- a shelf may hold these bytes under a name: any where it tells nothing, those that it tells, and none where it has no such file
 abbrev pub MayHold : Told → List ℕ → Type 0
@@ -56,12 +56,12 @@ MayHold (Some (Some told)) file = file ≡ told
 -- the answer to a command over what the shelf holds
 abbrev pub IsAnswer : Command → (List ℕ → Told) → ℕ → List ℕ → Type 0
 IsAnswer Usage told status text = (status ≡ 2) × (text ≡ usage_text)
-IsAnswer (Route name) told status text = (file : List ℕ) × (MayHold (told name) file × IsRouteAnswer file status text)
+IsAnswer (Route name tolerance) told status text = (file : List ℕ) × (MayHold (told name) file × IsRouteAnswer tolerance file status text)
 
 -- the file that the words name can't be read: the count of faults of its own name rose
 abbrev pub IsReadFault : Command → (List ℕ → ℕ) → (List ℕ → ℕ) → ℕ → List ℕ → Type 0
 IsReadFault Usage before now status text = ⊥
-IsReadFault (Route name) before now status text = Rose (before name) (now name) × (status ≡ 6) × (text ≡ read_fault_text (codes "route"))
+IsReadFault (Route name tolerance) before now status text = Rose (before name) (now name) × (status ≡ 6) × (text ≡ read_fault_text (codes "route"))
 
 -- a run may write this text and end with this status, where the counts of faults of the files were `before` and are `now`
 abbrev pub MayWrite : Command → (List ℕ → Told) → (List ℕ → ℕ) → (List ℕ → ℕ) → ℕ → List ℕ → Type 0
@@ -85,4 +85,4 @@ pub record WroteFront (command : Command) (told : List ℕ → Told) (before now
 -- the words name this file
 abbrev pub Names : Command → List ℕ → Type 0
 Names Usage name = ⊥
-Names (Route file) name = name ≡ file
+Names (Route file tolerance) name = name ≡ file

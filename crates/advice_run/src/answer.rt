@@ -14,9 +14,6 @@ use step_energy::Steps;
 /// The bytes of a file, at most.
 pub const MOST_BYTES: usize = 1_048_576;
 
-/// The tolerance of the gap, in per mille of the energy.
-const TOLERANCE: u32 = 10;
-
 /// A text, and the status that the program ends with once the text is written.
 #[derive(Drop)]
 pub struct Answer {
@@ -29,7 +26,7 @@ pub struct Answer {
 pub fn usage(alloc: Global) -> Result<Answer, AllocError>
     ensures { IfOk result (λ a. (a.status ≡ 2) × (a.text.items ≡ text_of_usage)) }
 {
-    let text = Vec::from_slice(alloc, b"usage: advice route FILE\n")?;
+    let text = Vec::from_slice(alloc, b"usage: advice route FILE [--tolerance N]\n")?;
     Ok(Answer { status: 2, text })
 }
 
@@ -77,19 +74,21 @@ fn route_fault_words(alloc: Global, fault: RouteFault) -> Result<Vec<u8>, AllocE
     }
 }
 
-/// The answer to the bytes of a route file.
+/// The answer to the bytes of a route file, at a tolerance of the gap in per mille of the energy.
 pub fn route_answer<L: Ledger>(
     alloc: Global,
     file: &[u8],
+    tolerance: u32,
     steps: &mut Steps<L>,
 ) -> Result<Answer, AllocError>
-    ensures { IfOk result (λ a. IsRouteAnswer file.now a.status a.text.items) }
+    requires { tolerance ≤ 1000 }
+    ensures { IfOk result (λ a. IsRouteAnswer tolerance file.now a.status a.text.items) }
 {
     if file.len() > MOST_BYTES {
         return refusal(alloc, b"route", b"too-long");
     }
     match read_route(alloc, file, steps) {
-        Ok(rules) => plan_answer(alloc, &rules, TOLERANCE),
+        Ok(rules) => plan_answer(alloc, &rules, tolerance),
         Err(RouteFault::NoMemory) => Err(AllocError),
         Err(fault) => {
             let words = route_fault_words(alloc, fault)?;

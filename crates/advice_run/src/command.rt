@@ -1,26 +1,16 @@
 //! What the words ask for, and the answer to that.
 
-ghost use Rattle.std.specs.Prelude.{◌≡◌, ◌≢◌, ℕ, [], List, IfOk, length};
-ghost use Rattle.std.specs.Bool.{OnTrue, OnFalse};
-ghost use Rattle.std.specs.List.{slice_index_or};
-ghost use Rattle.rail_specs.specs.Words.{command_of, Route, Usage};
+ghost use Rattle.std.specs.Prelude.{◌≡◌, ◌≢◌, ◌≤◌, ℕ, List, IfOk};
+ghost use Rattle.advice_run.specs.Words.{command_of, Route};
 ghost use Rattle.advice_run.specs.Outcome.{MayWrite, Names};
 
 use crate::answer::{Answer, MOST_BYTES, read_fault, route_answer, usage};
+use crate::command_line::read_route_words;
 use crate::words::Words;
 use edge_io::{FetchFault, Shelf};
 use std::alloc::{AllocError, Global};
 use std::sync::ledger::Ledger;
 use step_energy::Steps;
-
-/// Whether the words are `route` and the name of a file.
-fn asks_route(words: &Words) -> bool
-    ensures two { OnTrue result (length words.now ≡ 2) }
-    ensures yes { OnTrue result (command_of words.now ≡ Route (slice_index_or words.now 1 [])) }
-    ensures no { OnFalse result (command_of words.now ≡ Usage) }
-{
-    words.count() == 2 && words.get(0) == "route"
-}
 
 /// The answer to the words, over what the shelf holds.
 pub fn answer<S: Shelf, L: Ledger>(
@@ -33,11 +23,30 @@ pub fn answer<S: Shelf, L: Ledger>(
     ensures kept { (n : List ℕ) → S.contents shelf.new n ≡ S.contents shelf.old n }
     ensures others { (n : List ℕ) → (Names (command_of words.now) n → ⊥) → S.faults shelf.new n ≡ S.faults shelf.old n }
 {
-    if !asks_route(words) {
+    if words.count() == 0 || words.get(0) != "route" {
         return usage(alloc);
     }
-    match shelf.fetch(alloc, words.get(1), MOST_BYTES + 1) {
-        Ok(file) => route_answer(alloc, file.as_slice(), steps),
+    match read_route_words(alloc, words)? {
+        Some(asked) => answer_route(alloc, asked.file, asked.tolerance, shelf, steps),
+        None => usage(alloc),
+    }
+}
+
+/// The answer to `route`, over what the shelf holds under the name of its file.
+fn answer_route<S: Shelf, L: Ledger>(
+    alloc: Global,
+    name: &str,
+    tolerance: u32,
+    shelf: &mut S,
+    steps: &mut Steps<L>,
+) -> Result<Answer, AllocError>
+    requires { tolerance ≤ 1000 }
+    ensures may { IfOk result (λ a. MayWrite (Route name.now tolerance) (S.contents shelf.old) (S.faults shelf.old) (S.faults shelf.new) a.status a.text.items) }
+    ensures kept { (n : List ℕ) → S.contents shelf.new n ≡ S.contents shelf.old n }
+    ensures others { (n : List ℕ) → n ≢ name.now → S.faults shelf.new n ≡ S.faults shelf.old n }
+{
+    match shelf.fetch(alloc, name, MOST_BYTES + 1) {
+        Ok(file) => route_answer(alloc, file.as_slice(), tolerance, steps),
         Err(FetchFault::Failed) => read_fault(alloc, b"route"),
         Err(FetchFault::NoMemory) => Err(AllocError),
     }

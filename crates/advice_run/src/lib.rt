@@ -3,6 +3,7 @@
 
 mod answer;
 mod command;
+mod command_line;
 mod plan;
 mod program;
 mod words;

@@ -6,7 +6,7 @@ ghost use Rattle.rail_specs.specs.Times.{IsOnTimeUp, IsFirstLate, time_up};
 ghost use Rattle.rail_specs.specs.Plan.{IsPlanAnswer};
 
 use crate::answer::Answer;
-use drive_report::{drive_text, late_text, no_drive_text};
+use drive_report::{late_text, no_drive_text, report};
 use drive_rules::{Judged, LateAt, Rules};
 use rail_base::{Traction, is_gap_met};
 use speed_envelopes::greatest_drive;
@@ -65,7 +65,7 @@ fn drive_answer(
     };
     let bound = 0;
     let met = is_gap_met(energy, bound, tolerance);
-    let text = drive_text(alloc, speeds, energy, bound, met)?;
+    let text = report(alloc, rules, speeds, energy, bound, met)?;
     let status = if met { 0 } else { 1 };
     Ok(Answer { status, text })
 }

@@ -2,7 +2,7 @@
 
 ghost use Rattle.std.specs.Prelude.{◌≡◌, ◌≢◌, ℕ, List};
 ghost use Rattle.rail_specs.specs.Faults.{Rose};
-ghost use Rattle.rail_specs.specs.Words.{command_of};
+ghost use Rattle.advice_run.specs.Words.{command_of};
 ghost use Rattle.advice_run.specs.Outcome.{Wrote, WroteFront, Names};
 
 use crate::command::answer;

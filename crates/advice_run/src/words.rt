@@ -18,7 +18,7 @@ impl Model for Words {
 }
 
 impl Words {
-    ghost use Rattle.std.specs.Prelude.{◌≡◌, ◌++◌, ◌∷◌, [], is_ok, if◌then◌else◌, length, ◌<◌};
+    ghost use Rattle.std.specs.Prelude.{◌≡◌, ◌++◌, ◌∷◌, [], is_ok, if◌then◌else◌, length, map, string_bytes, ◌<◌};
     ghost use Rattle.std.specs.List.{slice_index_or};
 
     /// No words. It takes no memory.
@@ -43,6 +43,13 @@ impl Words {
         ensures { result.now ≡ slice_index_or self.now i [] }
     {
         self.words[i].as_str()
+    }
+
+    /// The words as texts.
+    pub(crate) fn texts(&self) -> &[String]
+        ensures { map string_bytes result.now ≡ self.now }
+    {
+        self.words.as_slice()
     }
 
     /// Appends a word, or leaves the list as it was where there is no memory.

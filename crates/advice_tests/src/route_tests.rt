@@ -50,14 +50,14 @@ fn routes_are_answered(rt: HostRuntime) -> Result<(), Fail> {
             50,
             &[LEVEL, LEVEL],
             1,
-            "advice 1\ngap open\nenergy 10200000000000\nbound 0\nspeeds 0 1000 0\nend\n",
+            "advice 1\ngap open\nenergy 10200000000000\nkilojoules 5100\nbound 0\nphase 0 100 power 0 1000\nphase 100 200 brake 1000 0\ntime 200 40000 50000\nspeeds 0 1000 0\nend\n",
         ),
         (
             51_000,
             50,
             &["100 -600 1000", "100 -600 1000"],
             0,
-            "advice 1\ngap met\nenergy 0\nbound 0\nspeeds 0 918 0\nend\n",
+            "advice 1\ngap met\nenergy 0\nkilojoules 0\nbound 0\nphase 0 200 brake 0 0\ntime 200 43574 50000\nspeeds 0 918 0\nend\n",
         ),
         (
             51_000,
@@ -85,7 +85,7 @@ fn routes_are_answered(rt: HostRuntime) -> Result<(), Fail> {
             60,
             &[LEVEL, LEVEL, LEVEL],
             1,
-            "advice 1\ngap open\nenergy 10400000000000\nbound 0\nspeeds 0 1000 1000 0\nend\n",
+            "advice 1\ngap open\nenergy 10400000000000\nkilojoules 5200\nbound 0\nphase 0 100 power 0 1000\nphase 100 200 hold 1000 1000\nphase 200 300 brake 1000 0\ntime 300 50000 60000\nspeeds 0 1000 1000 0\nend\n",
         ),
         (51_000, 50, &[LEVEL], 3, "refused route range 8\n"),
     ];
@@ -128,18 +128,31 @@ fn files_that_are_no_routes_are_refused(rt: HostRuntime) -> Result<(), Fail> {
 #[test]
 fn words_that_ask_for_nothing_are_answered_by_the_usage(rt: HostRuntime) -> Result<(), Fail> {
     let alloc = rt.alloc();
-    let cases: [&[&str]; 6] = [
+    let cases: [&[&str]; 16] = [
         &[],
         &["route"],
         &["--help"],
         &["help"],
         &["route", "a", "b"],
         &["Route", "a"],
+        &["route", "a", "--help"],
+        &["route", "a", "-h"],
+        &["route", "a", "--splits", "1"],
+        &["route", "a", "--tolerance"],
+        &["route", "a", "--tolerance", "1001"],
+        &["route", "a", "--tolerance", "+1"],
+        &["route", "a", "--tolerance", ""],
+        &["route", "a", "--tol", "1"],
+        &["route", "a", "--tolerance=1", "--tolerance=1"],
+        &["route", "-5"],
     ];
     for words in cases {
         let got = run_words(alloc, words, plain(alloc))?;
         assert_eq!(rt; got.status, 2);
-        assert_eq!(rt; got.text.as_str(), "usage: advice route FILE\n");
+        assert_eq!(rt;
+            got.text.as_str(),
+            "usage: advice route FILE [--tolerance N]\n"
+        );
     }
     Ok(())
 }
@@ -172,5 +185,26 @@ fn faults_are_told(rt: HostRuntime) -> Result<(), Fail> {
     let filled = run_words(alloc, &["route", "a.route"], full)?;
     assert_eq!(rt; filled.status, 7);
     assert_eq!(rt; filled.text.as_str(), "advice 1\ngap");
+    Ok(())
+}
+
+#[test]
+fn options_stand_anywhere(rt: HostRuntime) -> Result<(), Fail> {
+    let alloc = rt.alloc();
+    let route = route_of(alloc, 51_000, 50, &[LEVEL, LEVEL])?;
+    let cases: [&[&str]; 5] = [
+        &["route", "a.route", "--tolerance", "1000"],
+        &["route", "--tolerance=1000", "a.route"],
+        &["route", "--tolerance", "0000001000", "--", "a.route"],
+        &["route", "--", "a.route"],
+        &["route", "a.route", "--tolerance=0"],
+    ];
+    let statuses = [0, 0, 0, 1, 1];
+    for i in 0..5 {
+        let mut setting = plain(alloc);
+        setting.files = one_file(alloc, "a.route", route.as_bytes())?;
+        let got = run_words(alloc, cases[i], setting)?;
+        assert_eq!(rt; got.status, statuses[i], "{i}");
+    }
     Ok(())
 }

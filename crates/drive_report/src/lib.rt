@@ -11,5 +11,5 @@ mod short;
 
 pub use phases::phase;
 pub use rail_specs::Phase;
-pub use reports::{drive_text, report};
+pub use reports::report;
 pub use short::{late_text, no_drive_text};

@@ -1,11 +1,10 @@
 // The report of a drive.
 
 ghost use Rattle.std.specs.Prelude.{◌≡◌, ◌++◌, ◌∷◌, ℕ, ◌+◌, ◌<◌, ◌≤◌, ◌==◌, ◌^◌, List, length, pos, IfOk, OnOk, IsTrue, ◌↔◌, if◌then◌else◌, [], slice_index};
-ghost use Rattle.std.specs.Int.RustNames.{unsigned_abs};
 ghost use Rattle.std.specs.List.{flat_map};
 ghost use Rattle.rail_specs.specs.Rules.{IsDrive};
 ghost use Rattle.rail_specs.specs.Phase.{phase_at, phase_name};
-ghost use Rattle.rail_specs.specs.Report.{gap_line, speeds_line, kilojoules_of, ends_run, run_start, phase_line, phase_lines, time_line, energy_lines, report_text, drive_text as text_of_drive};
+ghost use Rattle.rail_specs.specs.Report.{gap_line, speeds_line, kilojoules_of, ends_run, run_start, phase_line, phase_lines, time_line, energy_lines, report_text};
 
 use crate::lines::{put_head, put_line, put_number_line, put_spaced, put_word};
 use crate::phases::phase;
@@ -222,27 +221,6 @@ pub fn report(
     put_energy(alloc, &mut out, energy, bound)?;
     put_phases(alloc, &mut out, rules, speeds)?;
     put_times(alloc, &mut out, rules, speeds)?;
-    put_speeds(alloc, &mut out, speeds)?;
-    put_line(&mut out, b"end")?;
-    Ok(out)
-}
-
-/// The text of a drive: its speeds in cm/s, one for each point, its energy and a bound in 0.5 microjoule, and whether
-/// the gap between them is met.
-pub fn drive_text(
-    alloc: Global,
-    speeds: &[u16],
-    energy: i128,
-    bound: i128,
-    met: bool,
-) -> Result<Vec<u8>, AllocError>
-    ensures { IfOk result (λ text. text.items ≡ text_of_drive speeds.now energy bound met) }
-{
-    let mut out = Vec::new(alloc);
-    put_head(&mut out)?;
-    put_gap(&mut out, met)?;
-    put_number_line(alloc, &mut out, b"energy", energy)?;
-    put_number_line(alloc, &mut out, b"bound", bound)?;
     put_speeds(alloc, &mut out, speeds)?;
     put_line(&mut out, b"end")?;
     Ok(out)

@@ -12,5 +12,4 @@ pub mod Faults
 pub mod Phase
 pub mod Report
 pub mod Plan
-pub mod Words
 pub mod Grid

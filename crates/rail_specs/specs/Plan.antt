@@ -3,7 +3,7 @@ use Rattle.std.specs.Prelude.{ℕ, ◌≡◌, List, ℤ, Bool, IsTrue, ◌↔◌
 use Rattle.rail_specs.specs.Rules.{Rules, IsGreatestDrive, NoDrive, timing_at}
 use Rattle.rail_specs.specs.Times.{IsOnTimeUp, NoneOnTime, IsFirstLate, time_up}
 use Rattle.rail_specs.specs.Cost.{traction_cost, cost_of, IsBound, GapMet}
-use Rattle.rail_specs.specs.Report.{no_drive_text, late_text, drive_text}
+use Rattle.rail_specs.specs.Report.{no_drive_text, late_text, report_text}
 
 -- there is no drive: status 4
 pub record IsNoDriveAnswer (r : Rules) (status : ℕ) (text : List ℕ) : Type 0 where
@@ -27,7 +27,7 @@ pub record IsDriveAnswer (r : Rules) (tolerance status : ℕ) (text : List ℕ) 
   pub bounds : IsBound traction_cost r bound
   pub gap : IsTrue met ↔ GapMet energy bound tolerance
   pub ends : status ≡ (if met then 0 else 1)
-  pub says : text ≡ drive_text speeds energy bound met
+  pub says : text ≡ report_text r speeds energy bound met
 
 -- the text and the status are an answer for the rules, at this tolerance in per mille
 abbrev pub IsPlanAnswer : Rules → ℕ → ℕ → List ℕ → Type 0

@@ -46,11 +46,6 @@ gap_line false = line (codes "gap open")
 unfoldable pub speeds_line : List ℕ → List ℕ
 speeds_line speeds = line (codes "speeds" ++ flat_map (λ v. spaced (pos v)) speeds)
 
--- the text of a drive: its energy, a bound, and its speeds
-abbrev pub drive_text : List ℕ → ℤ → ℤ → Bool → List ℕ
-drive_text speeds energy bound met =
-    head_line ++ gap_line met ++ number_line (codes "energy") energy ++ number_line (codes "bound") bound ++ speeds_line speeds ++ line (codes "end")
-
 -- the least whole number of kilojoules that is at least an energy in 0.5 microjoule
 abbrev pub kilojoules_of : ℤ → ℤ
 kilojoules_of (pos n) = pos (div_ceil n 2000000000)

@@ -20,7 +20,7 @@ returns c =
     let arrival : to_z w128 c.args.arrival ≡ pos c.args.arrival = omega (arith, ints) in
     let wide : to_z w128 (of_z w128 (to_z w64 (of_z w64 latest))) ≡ latest = omega (arith, ints) in
     let at_place : c.place.result ≡ slice_index r.places (timing_at r j).point =
-      c.place.ensures.value ∙ ap (λ (ts : List Timing). slice_index r.places (slice_index_or ts j no_timing).point) same in
+    c.place.ensures.value ∙ ap (λ (ts : List Timing). slice_index r.places (slice_index_or ts j no_timing).point) same in
     let at_latest : latest ≡ (timing_at r j).latest = ap (λ (ts : List Timing). (slice_index_or ts j no_timing).latest) same in
     appended_five c.args.out.now.items c.extend_from_slice.new.self.items c.put_spaced.new.out.items c.put_spaced-2.new.out.items c.put_spaced-3.new.out.items c.push.new.self.items
     (codes "late") (spaced (pos (slice_index r.places (timing_at r j).point))) (spaced (pos c.args.arrival)) (spaced (timing_at r j).latest) (10 ∷ [])

@@ -1,0 +1,62 @@
+-- What the words of a command line ask for.
+-- The first word is the command. Each command is one simple command of clap, which reads all the words.
+use Rattle.std.specs.Prelude.{ℕ, ◌&&◌, List, [], ◌∷◌, Option, Some, None, codes, if◌then◌else◌, unwrap_or, option_and_then, nat_le, true}
+use Rattle.std.specs.Str.{bytes_eq}
+use Rattle.rail_specs.specs.Numbers.{digits_number}
+use Rattle.clap.specs.Words.{App, Row, Rule, Text, fault_of, first_of, matches_of, new_app, new_rule, with_rule}
+use Rattle.clap.specs.Walk.{is_empty}
+use Rattle.clap.specs.declared.builder.action.ArgAction.TheVariants.{Set}
+
+-- a command with its names and numbers, or a word about usage
+pub data Command : Type 0 where
+  Usage : Command
+  -- the greatest drive over the route in the file of this name, at this tolerance in per mille
+  Route : List ℕ → ℕ → Command
+
+-- ---- the simple commands
+
+-- a required positional of one value
+abbrev pub positional : Text → Rule
+positional id = record (new_rule id) { required = true; action = Some Set }
+
+-- a long option of one value, with its default
+abbrev pub option : Text → Text → Rule
+option id standard = record (new_rule id) { long = Some id; action = Some Set; defaults = standard ∷ [] }
+
+-- `route FILE [--tolerance N]`
+abbrev pub route_app : App
+route_app = with_rule (with_rule (new_app (codes "route")) (positional (codes "file"))) (option (codes "tolerance") (codes "10"))
+
+-- ---- what clap takes of the words, and what the texts that it takes mean
+
+-- the rows of a command's arguments, or none where it refuses the words
+unfoldable pub taken : App → List Text → Option (List Row)
+taken app words = if is_empty (fault_of app words) then Some (matches_of app words) else None
+
+-- the value of an argument
+abbrev pub value_of : Text → List Row → Text
+value_of id rows = unwrap_or (first_of id rows) []
+
+-- a number in its range
+abbrev pub in_range : ℕ → ℕ → ℕ → Option ℕ
+in_range low high n = if nat_le low n && nat_le n high then Some n else None
+
+-- the number of 1 to 10 decimal digits in a range, and none for any other text
+abbrev pub number_in : ℕ → ℕ → Text → Option ℕ
+number_in low high text = option_and_then (in_range low high) (digits_number 10 text)
+
+-- ---- the commands
+
+abbrev pub route_of_number : Text → Option ℕ → Command
+route_of_number file None = Usage
+route_of_number file (Some tolerance) = Route file tolerance
+
+-- `route` with a tolerance of 0 to 1,000 per mille
+abbrev pub route_of_rows : Option (List Row) → Command
+route_of_rows None = Usage
+route_of_rows (Some rows) = route_of_number (value_of (codes "file") rows) (number_in 0 1000 (value_of (codes "tolerance") rows))
+
+-- the command of a list of words
+abbrev pub command_of : List (List ℕ) → Command
+command_of [] = Usage
+command_of (word ∷ words) = if bytes_eq word (codes "route") then route_of_rows (taken route_app (word ∷ words)) else Usage

@@ -1,0 +1,126 @@
+//! The words of a command line, read by clap: one simple command for each first word.
+
+ghost use Rattle.std.specs.Prelude.{◌≡◌, ◌≤◌, ◌<◌, ◌^◌, ℕ, Some, true, IfOk, IfSome, MatchOption, option_map};
+ghost use Rattle.clap.specs.Words.{app_of, found_of, is_simple_and_free, rows_of, with_rule};
+ghost use Rattle.advice_run.specs.Words.{Route, Usage, number_in, option, positional, route_app, route_of_rows, taken, value_of};
+
+use crate::words::Words;
+use clap::error::ErrorKind;
+use clap::{Arg, ArgAction, ArgMatches, Command};
+use rail_base::read_digits;
+use std::alloc::{AllocError, Global};
+
+/// A command with one more required positional.
+fn with_name<'a>(
+    alloc: Global,
+    command: Command<'a>,
+    id: &'a str,
+) -> Result<Command<'a>, AllocError>
+    ensures { IfOk result (λ c. app_of c ≡ with_rule (app_of command.entry) (positional id.entry.now)) }
+{
+    command.arg(Arg::new(alloc, id).required(true).action(ArgAction::Set))
+}
+
+/// A command with one more long option.
+fn with_option<'a>(
+    alloc: Global,
+    command: Command<'a>,
+    id: &'a str,
+    standard: &'a str,
+) -> Result<Command<'a>, AllocError>
+    ensures { IfOk result (λ c. app_of c ≡ with_rule (app_of command.entry) (option id.entry.now standard.entry.now)) }
+{
+    let arg = Arg::new(alloc, id)
+        .long(id)
+        .action(ArgAction::Set)
+        .default_value(standard);
+    command.arg(arg)
+}
+
+/// The command `route FILE [--tolerance N]`.
+fn route_command<'a>(alloc: Global) -> Result<Command<'a>, AllocError>
+    ensures { IfOk result (λ c. app_of c ≡ route_app) }
+{
+    let command = Command::new(alloc, "route");
+    let command = with_name(alloc, command, "file")?;
+    let command = with_option(alloc, command, "tolerance", "10")?;
+    Ok(command)
+}
+
+/// The matches of a command, or none where it refuses the words.
+fn matches_of<'a>(
+    command: Command<'a>,
+    words: &'a Words,
+) -> Result<Option<ArgMatches<'a>>, AllocError>
+    requires { is_simple_and_free (app_of command) ≡ true }
+    ensures { IfOk result (λ r. option_map (λ m. rows_of (found_of m)) r ≡ taken (app_of command.entry) words.entry.now) }
+{
+    match command.try_get_matches_from(words.texts()) {
+        Ok(matches) => Ok(Some(matches)),
+        Err(error) => match error.kind() {
+            ErrorKind::OutOfMemory => Err(AllocError),
+            _ => Ok(None),
+        },
+    }
+}
+
+/// A value of the matches.
+fn value_of<'a>(matches: &ArgMatches<'a>, id: &str) -> &'a str
+    ensures { result.now ≡ value_of id.now (rows_of (found_of matches.now)) }
+{
+    match matches.get_str(id) {
+        Some(text) => text,
+        None => "",
+    }
+}
+
+/// The number of 1 to 10 decimal digits in a range.
+pub fn number_in(text: &str, low: u32, high: u32) -> Option<u32>
+    ensures value { result ≡ number_in low high text.now }
+    ensures within { IfSome result (λ n. n ≤ high) }
+{
+    match read_digits(text.as_bytes(), 10) {
+        Some(number) if low as u64 <= number && number <= high as u64 => Some(number as u32),
+        _ => None,
+    }
+}
+
+/// The names and numbers of the command `route`.
+#[derive(Drop)]
+pub struct RouteWords<'a> {
+    /// The name of the route's file.
+    pub file: &'a str,
+    /// The tolerance, per mille, 0 to 1,000.
+    pub tolerance: u32,
+}
+
+/// The names and numbers of the command `route`, or none where the words are refused.
+pub fn read_route_words<'a>(
+    alloc: Global,
+    words: &'a Words,
+) -> Result<Option<RouteWords<'a>>, AllocError>
+    ensures { IfOk result (λ r. MatchOption r (route_of_rows (taken route_app words.entry.now) ≡ Usage) (λ w. (route_of_rows (taken route_app words.entry.now) ≡ Route w.file.now w.tolerance) × (w.tolerance ≤ 1000))) }
+{
+    let command = match route_command(alloc) {
+        Ok(command) => command,
+        Err(_) => return Err(AllocError),
+    };
+    match matches_of(command, words) {
+        Ok(Some(matches)) => Ok(route_words(&matches)),
+        Ok(None) => Ok(None),
+        Err(_) => Err(AllocError),
+    }
+}
+
+/// What the matches of the command `route` say, or none where a number is refused.
+fn route_words<'a>(matches: &ArgMatches<'a>) -> Option<RouteWords<'a>>
+    ensures { MatchOption result (route_of_rows (Some (rows_of (found_of matches.now))) ≡ Usage) (λ w. (route_of_rows (Some (rows_of (found_of matches.now))) ≡ Route w.file.now w.tolerance) × (w.tolerance ≤ 1000)) }
+{
+    match number_in(value_of(matches, "tolerance"), 0, 1000) {
+        Some(tolerance) => Some(RouteWords {
+            file: value_of(matches, "file"),
+            tolerance,
+        }),
+        None => None,
+    }
+}
