@@ -8,6 +8,7 @@ ghost use Rattle.drive_rules.specs.Verdict.{force_rule, step_rule};
 use crate::judge::Rule;
 use crate::rules::Rules;
 use force_table::SpeedTable;
+use step_energy::StepRow;
 
 impl Rules {
     /// The most work that the traction does over step i, at the force of the exit speed v1, in 0.5 microjoule.
@@ -50,8 +51,9 @@ impl Rules {
     }
 
     /// The work of step i from v0 to v1, in 0.5 microjoule, or the first of its rules that these speeds break.
-    pub(crate) fn kept_work(&self, i: usize, v0: u16, v1: u16) -> Result<i64, Rule>
-        requires { i < length self.now.steps }
+    pub(crate) fn kept_work(&self, i: usize, row: &StepRow, v0: u16, v1: u16) -> Result<i64, Rule>
+        requires step { i < length self.now.steps }
+        requires row { row.now ≡ step_at self.now i }
         ensures kept { IfOk result (λ w. (step_rule self.now i v0 v1 ≡ None) × (w ≡ work (step_at self.now i) v0 v1) × (unsigned_abs w < 2 ^ 62)) }
         ensures broken { IfErr result (λ rule. step_rule self.now i v0 v1 ≡ Some rule) }
     {
@@ -63,7 +65,7 @@ impl Rules {
         if fastest > parts.top {
             return Err(Rule::Top);
         }
-        let work = parts.rows[i].short_work(v0, v1);
+        let work = row.short_work(v0, v1);
         match self.force_rule(i, v0, v1, work) {
             None => Ok(work),
             Some(rule) => Err(rule),
@@ -77,6 +79,7 @@ impl Rules {
         requires entry { v0 ≤ self.now.top }
         requires exit { v1 ≤ self.now.top }
         requires known { work ≡ work_of (step_at self.now i) v0 v1 }
+        requires small { unsigned_abs work < 2 ^ 62 }
         ensures { result ≡ force_rule self.now i v0 v1 }
     {
         if work > 0 {
@@ -97,7 +100,7 @@ impl Rules {
         requires { i < length self.now.steps }
         ensures { IsTrue result ↔ IsStepKept self.now i v0 v1 }
     {
-        self.kept_work(i, v0, v1).is_ok()
+        self.kept_work(i, self.row(i), v0, v1).is_ok()
     }
 
     /// Whether the traction takes the train over step i from v0 to v1, whatever the limit.
@@ -134,8 +137,9 @@ impl Rules {
 
 /// Whether brakes that take so much work hold the train at this work.
 fn is_held(work: i64, most: i64) -> bool
-    requires { unsigned_abs most ≤ 4000000000000000 }
+    requires work { unsigned_abs work < 2 ^ 62 }
+    requires most { unsigned_abs most ≤ 4000000000000000 }
     ensures { IsTrue result ↔ (neg_ℤ most ≤ℤ work) }
 {
-    work >= -most
+    work + most >= 0
 }
