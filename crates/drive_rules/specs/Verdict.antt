@@ -28,13 +28,18 @@ point_rule r k v =
     else if is_stop r k then (if v == 0 then None else Some Stop)
     else if v == 0 then Some Standing else None
 
+-- the first rule on forces that step i breaks from v0 to v1
+abbrev pub force_rule : Rules → ℕ → ℕ → ℕ → Option Rule
+force_rule r i v0 v1 =
+    if int_lt (pos (traction_work r i v1)) (work (step_at r i) v0 v1) then Some Traction
+    else if int_lt (work (step_at r i) v0 v1) (neg_ℤ (pos (brake_work r i v0))) then Some Brake else None
+
 -- the first rule that step i breaks from v0 to v1
 abbrev pub step_rule : Rules → ℕ → ℕ → ℕ → Option Rule
 step_rule r i v0 v1 =
     if nat_lt (slice_index r.limits i) v0 || nat_lt (slice_index r.limits i) v1 then Some Limit
     else if nat_lt r.top v0 || nat_lt r.top v1 then Some Top
-    else if int_lt (pos (traction_work r i v1)) (work (step_at r i) v0 v1) then Some Traction
-    else if int_lt (work (step_at r i) v0 v1) (neg_ℤ (pos (brake_work r i v0))) then Some Brake else None
+    else force_rule r i v0 v1
 
 abbrev pub point_fault : Rules → List ℕ → ℕ → Option (Rule × ℕ)
 point_fault r speeds k = option_map (λ rule. (rule, k)) (point_rule r k (slice_index speeds k))

@@ -10,6 +10,7 @@ ghost use Rattle.drive_rules.specs.Verdict.{point_rule, step_rule, first_below, 
 use crate::rules::Rules;
 use rail_base::StepCost;
 use rail_specs::Timing;
+use step_energy::StepRow;
 use step_time_bounds::time_up;
 
 /// A rule of a drive, in the order in which rules are tried.
@@ -68,6 +69,7 @@ impl Rules {
 
     /// The first point whose rule the speeds break.
     #[tactic(auto, using(crate::proofs::VerdictLemmas::firsts))]
+    #[inline(never)]
     fn broken_point(&self, speeds: &[u16]) -> Option<(Rule, u32)>
         requires { length speeds.now ≡ length self.now.steps + 1 }
         ensures { result ≡ first_below (point_fault self.now speeds.now) (length speeds.now) }
@@ -82,25 +84,35 @@ impl Rules {
     }
 
     /// The cost of step i's work from v0 to v1, or the first of its rules that these speeds break.
-    fn step_cost<C: StepCost>(&self, i: usize, v0: u16, v1: u16, cost: &C) -> Result<i128, Rule>
-        requires { i < length self.now.steps }
+    fn step_cost<C: StepCost>(
+        &self,
+        i: usize,
+        row: &StepRow,
+        v0: u16,
+        v1: u16,
+        cost: &C,
+    ) -> Result<i128, Rule>
+        requires step { i < length self.now.steps }
+        requires row { row.now ≡ step_at self.now i }
         ensures kept { IfOk result (λ c. (step_rule self.now i v0 v1 ≡ None) × (c ≡ C.cost cost.now (work (step_at self.now i) v0 v1)) × (unsigned_abs c ≤ 2 ^ 62)) }
         ensures broken { IfErr result (λ rule. step_rule self.now i v0 v1 ≡ Some rule) }
     {
-        let work = self.kept_work(i, v0, v1)?;
+        let work = self.kept_work(i, row, v0, v1)?;
         Ok(cost.of(work as i128))
     }
 
     /// The sum of the costs of the steps' work, or the first step whose rules the speeds break.
     #[tactic(auto, using(crate::proofs::VerdictLemmas::firsts, crate::proofs::VerdictLemmas::sums))]
+    #[inline(never)]
     fn steps_cost<C: StepCost>(&self, speeds: &[u16], cost: &C) -> Result<i128, (Rule, u32)>
         requires { length speeds.now ≡ length self.now.steps + 1 }
         ensures small { IfOk result (λ total. unsigned_abs total ≤ 2 ^ 74) }
         ensures first { MatchResult result (λ total. (first_below (step_fault self.now speeds.now) (length self.now.steps) ≡ None) × (total ≡ cost_of (C.cost cost.now) self.now speeds.now)) (λ fault. first_below (step_fault self.now speeds.now) (length self.now.steps) ≡ Some fault) }
     {
+        let rows = self.rows();
         let mut sum = 0;
         for i in 0..self.steps() {
-            match self.step_cost(i, speeds[i], speeds[i + 1], cost) {
+            match self.step_cost(i, &rows[i], speeds[i], speeds[i + 1], cost) {
                 Ok(cost) => sum += cost,
                 Err(rule) => return Err((rule, i as u32)),
             }
@@ -110,6 +122,7 @@ impl Rules {
 
     /// The time at point `to`, given that at point `from`.
     #[tactic(auto, using(crate::proofs::VerdictLemmas::sums))]
+    #[inline(never)]
     pub(crate) fn time_at(&self, speeds: &[u16], from: usize, time: u64, to: usize) -> u64
         requires count { length speeds.now ≡ length self.now.steps + 1 }
         requires moving { Moves self.now speeds.now }
@@ -120,11 +133,12 @@ impl Rules {
         ensures value { result ≡ arrival_of self.now speeds.now to }
         ensures early { result ≤ 210000000 * to }
     {
-        let _ = self.steps();
+        let rows = self.parts.rows.as_slice();
+        let dwells = self.parts.dwells.as_slice();
         let mut sum = time;
         for i in from..to {
-            sum += self.dwell(i) as u64
-                + time_up(self.row(i).metres(), speeds[i], speeds[i + 1]) as u64;
+            sum += dwells[i] as u64;
+            sum += time_up(rows[i].metres(), speeds[i], speeds[i + 1]) as u64;
         }
         sum
     }

@@ -101,6 +101,13 @@ impl Rules {
         &self.parts.rows[i]
     }
 
+    /// The rows of the steps.
+    pub(crate) fn rows(&self) -> &[StepRow]
+        ensures { result.now ≡ self.now.steps }
+    {
+        self.parts.rows.as_slice()
+    }
+
     /// Whether the train stops at point k.
     pub fn stop(&self, k: usize) -> bool
         requires { k ≤ length self.now.steps }

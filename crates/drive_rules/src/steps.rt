@@ -2,8 +2,8 @@
 ghost use Rattle.std.specs.Prelude.{◌≡◌, ℕ, ◌+◌, ◌*◌, ◌<◌, ◌≤◌, ◌↔◌, ◌^◌, ℤ, pos, neg_ℤ, ◌≤ℤ◌, length, slice_index, IsTrue, IfOk, IfErr, None, Some};
 ghost use Rattle.std.specs.Int.RustNames.{unsigned_abs};
 ghost use Rattle.rail_specs.specs.Rules.{IsStepKept, step_at, traction_work, brake_work};
-ghost use Rattle.rail_specs.specs.Step.{work};
-ghost use Rattle.drive_rules.specs.Verdict.{step_rule};
+ghost use Rattle.rail_specs.specs.Step.{work, work as work_of};
+ghost use Rattle.drive_rules.specs.Verdict.{force_rule, step_rule};
 
 use crate::judge::Rule;
 use crate::rules::Rules;
@@ -17,7 +17,7 @@ impl Rules {
         requires speed { v1 ≤ self.now.top }
         ensures { result ≡ pos (traction_work self.now i v1) }
     {
-        self.parts.rows[i].force_work(self.parts.traction.at(v1)) as i128
+        self.traction_limit(i, v1) as i128
     }
 
     /// The most work that the brakes take over step i, at the force of the entry speed v0, in 0.5 microjoule.
@@ -27,32 +27,72 @@ impl Rules {
         ensures value { result ≡ pos (brake_work self.now i v0) }
         ensures small { result ≤ℤ pos (2 ^ 62) }
     {
-        self.parts.rows[i].force_work(self.parts.brake.at(v0)) as i128
+        self.brake_limit(i, v0) as i128
+    }
+
+    /// `traction_work` in 64 bits.
+    fn traction_limit(&self, i: usize, v1: u16) -> i64
+        requires step { i < length self.now.steps }
+        requires speed { v1 ≤ self.now.top }
+        ensures value { result ≡ pos (traction_work self.now i v1) }
+        ensures small { unsigned_abs result ≤ 4000000000000000 }
+    {
+        self.parts.rows[i].force_work(self.parts.traction.at(v1))
+    }
+
+    /// `brake_work` in 64 bits.
+    fn brake_limit(&self, i: usize, v0: u16) -> i64
+        requires step { i < length self.now.steps }
+        requires speed { v0 ≤ self.now.top }
+        ensures value { result ≡ pos (brake_work self.now i v0) }
+        ensures small { unsigned_abs result ≤ 4000000000000000 }
+    {
+        self.parts.rows[i].force_work(self.parts.brake.at(v0))
     }
 
     /// The work of step i from v0 to v1, in 0.5 microjoule, or the first of its rules that these speeds break.
-    pub(crate) fn kept_work(&self, i: usize, v0: u16, v1: u16) -> Result<i64, Rule>
-        requires { i < length self.now.steps }
+    pub(crate) fn kept_work(&self, i: usize, row: &StepRow, v0: u16, v1: u16) -> Result<i64, Rule>
+        requires step { i < length self.now.steps }
+        requires row { row.now ≡ step_at self.now i }
         ensures kept { IfOk result (λ w. (step_rule self.now i v0 v1 ≡ None) × (w ≡ work (step_at self.now i) v0 v1) × (unsigned_abs w < 2 ^ 62)) }
         ensures broken { IfErr result (λ rule. step_rule self.now i v0 v1 ≡ Some rule) }
     {
         let parts = &self.parts;
-        let limit = parts.limits[i];
-        if v0 > limit || v1 > limit {
+        let fastest = v0.max(v1);
+        if fastest > parts.limits[i] {
             return Err(Rule::Limit);
         }
-        if v0 > parts.top || v1 > parts.top {
+        if fastest > parts.top {
             return Err(Rule::Top);
         }
-        let row = &parts.rows[i];
         let work = row.short_work(v0, v1);
-        if !is_reached(row, work, parts.traction.at(v1)) {
-            return Err(Rule::Traction);
+        match self.force_rule(i, v0, v1, work) {
+            None => Ok(work),
+            Some(rule) => Err(rule),
         }
-        if !is_held(row, work, parts.brake.at(v0)) {
-            return Err(Rule::Brake);
+    }
+
+    /// The rule on forces that step i with this work breaks from v0 to v1. Only positive work asks for traction, and only
+    /// negative work for brakes.
+    fn force_rule(&self, i: usize, v0: u16, v1: u16, work: i64) -> Option<Rule>
+        requires step { i < length self.now.steps }
+        requires entry { v0 ≤ self.now.top }
+        requires exit { v1 ≤ self.now.top }
+        requires known { work ≡ work_of (step_at self.now i) v0 v1 }
+        requires small { unsigned_abs work < 2 ^ 62 }
+        ensures { result ≡ force_rule self.now i v0 v1 }
+    {
+        if work > 0 {
+            if work > self.traction_limit(i, v1) {
+                Some(Rule::Traction)
+            } else {
+                None
+            }
+        } else if is_held(work, self.brake_limit(i, v0)) {
+            None
+        } else {
+            Some(Rule::Brake)
         }
-        Ok(work)
     }
 
     /// Whether step i from v0 to v1 is within the limit, the top speed and the forces.
@@ -60,7 +100,7 @@ impl Rules {
         requires { i < length self.now.steps }
         ensures { IsTrue result ↔ IsStepKept self.now i v0 v1 }
     {
-        self.kept_work(i, v0, v1).is_ok()
+        self.kept_work(i, self.row(i), v0, v1).is_ok()
     }
 
     /// Whether the traction takes the train over step i from v0 to v1, whatever the limit.
@@ -70,8 +110,7 @@ impl Rules {
         requires exit { v1 ≤ self.now.top }
         ensures { IsTrue result ↔ (work (step_at self.now i) v0 v1 ≤ℤ pos (traction_work self.now i v1)) }
     {
-        let row = &self.parts.rows[i];
-        is_reached(row, row.short_work(v0, v1), self.parts.traction.at(v1))
+        self.parts.rows[i].short_work(v0, v1) <= self.traction_limit(i, v1)
     }
 
     /// Whether the brakes hold the train over step i from v0 to v1, whatever the limit.
@@ -81,8 +120,8 @@ impl Rules {
         requires exit { v1 ≤ self.now.top }
         ensures { IsTrue result ↔ (neg_ℤ (pos (brake_work self.now i v0)) ≤ℤ work (step_at self.now i) v0 v1) }
     {
-        let row = &self.parts.rows[i];
-        is_held(row, row.short_work(v0, v1), self.parts.brake.at(v0))
+        let work = self.parts.rows[i].short_work(v0, v1);
+        is_held(work, self.brake_limit(i, v0))
     }
 
     /// Whether step i from v0 to v1 needs no traction: its work is at most 0.
@@ -96,18 +135,11 @@ impl Rules {
     }
 }
 
-/// Whether a traction force does the work over the step.
-fn is_reached(row: &StepRow, work: i64, force: u32) -> bool
-    requires { force ≤ 2000000 }
-    ensures { IsTrue result ↔ (work ≤ℤ pos (2000000 * row.now.metres * force)) }
+/// Whether brakes that take so much work hold the train at this work.
+fn is_held(work: i64, most: i64) -> bool
+    requires work { unsigned_abs work < 2 ^ 62 }
+    requires most { unsigned_abs most ≤ 4000000000000000 }
+    ensures { IsTrue result ↔ (neg_ℤ most ≤ℤ work) }
 {
-    work <= row.force_work(force)
-}
-
-/// Whether a brake force takes the work over the step, where the work is negative.
-fn is_held(row: &StepRow, work: i64, force: u32) -> bool
-    requires { force ≤ 2000000 }
-    ensures { IsTrue result ↔ (neg_ℤ (pos (2000000 * row.now.metres * force)) ≤ℤ work) }
-{
-    work >= -row.force_work(force)
+    work + most >= 0
 }

@@ -36,6 +36,6 @@ impl StepCost for Traction {
     ghost within = { λ _. StaysWithin-traction_cost };
 
     fn of(&self, work: i128) -> i128 {
-        if work > 0 { work } else { 0 }
+        work.max(0)
     }
 }
