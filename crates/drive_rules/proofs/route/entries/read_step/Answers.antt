@@ -18,7 +18,8 @@ returns-in-Ok-clause-value g c =
     let f0 : SFits w64 (get_or c.read_after.new.numbers 0 (pos 0)) = search rules in
     let f1 : SFits w64 (get_or c.read_after.new.numbers 1 (pos 0)) = search rules in
     let f2 : SFits w64 (get_or c.read_after.new.numbers 2 (pos 0)) = search rules in
-    let limit = some_then _ _ _ (simp to_z-of_z at c.in-Some-natural_within.ensures.value) in
+    let value = simp to_z-of_z at c.in-Some-natural_within.ensures.value in
+    let limit = some_then _ _ _ value in
     let step = some_then _ _ _ (simp to_z-of_z at c.in-Some.ensures.value) in
     let made : c.in-Ok.row ≡ c.in-Some.step = c.in-Ok.ensures.made in
     step-made c.args.train.now c.args.n c.args.line.now c.read_after.new.numbers c.in-Ok.row c.in-Some-natural_within.limit c.if-n.false c.if-not-read_after.ensures step.0 limit.0
