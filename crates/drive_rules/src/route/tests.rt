@@ -4,6 +4,7 @@ ghost use Rattle.std.specs.Prelude.{◌≡◌, ◌<◌};
 
 use super::read_route;
 use crate::rules::Rules;
+use rail_base::put_number;
 use rail_specs::RouteFault;
 use std::alloc::{AllocError, Global};
 use std::marker::Brand;
@@ -11,200 +12,17 @@ use std::sync::ledger::{Blank, Ledger};
 use std::test::Fail;
 use step_energy::Steps;
 
-/// The example route, line by line.
+/// The example route, line by line, without the ends of the lines.
 const LINES: [&[u8]; 9] = [
-    b"route 1\n",
-    b"train 1000 1000 1000 0 0\n",
-    b"top 1000\n",
-    b"traction 51000\n",
-    b"brake 100000\n",
-    b"latest 50\n",
-    b"step 100 0 1000\n",
-    b"step 100 0 1000\n",
-    b"end\n",
-];
-
-/// A line of the example, what stands in its place, and the refusal.
-const REFUSED: [(usize, &[u8], RouteFault); 131] = [
-    (1, b"", RouteFault::Form(1)),
-    (1, b"route 1\nroute 1\n", RouteFault::Form(2)),
-    (1, b"route 1 \n", RouteFault::Form(1)),
-    (1, b" route 1\n", RouteFault::Form(1)),
-    (1, b"route 1\t\n", RouteFault::Form(1)),
-    (1, b"\nroute 1\n", RouteFault::Form(1)),
-    (1, b"route 1\r\r\n", RouteFault::Form(1)),
-    (2, b"", RouteFault::Form(2)),
-    (
-        2,
-        b"train 1000 1000 1000 0 0\ntrain 1000 1000 1000 0 0\n",
-        RouteFault::Form(3),
-    ),
-    (2, b"train 1000 1000 1000 0 0 \n", RouteFault::Form(2)),
-    (2, b" train 1000 1000 1000 0 0\n", RouteFault::Form(2)),
-    (2, b"train 1000 1000 1000 0 0\t\n", RouteFault::Form(2)),
-    (2, b"\ntrain 1000 1000 1000 0 0\n", RouteFault::Form(2)),
-    (2, b"train 1000 1000 1000 0 0\r\r\n", RouteFault::Form(2)),
-    (3, b"", RouteFault::Form(3)),
-    (3, b"top 1000\ntop 1000\n", RouteFault::Form(4)),
-    (3, b"top 1000 \n", RouteFault::Form(3)),
-    (3, b" top 1000\n", RouteFault::Form(3)),
-    (3, b"top 1000\t\n", RouteFault::Form(3)),
-    (3, b"\ntop 1000\n", RouteFault::Form(3)),
-    (3, b"top 1000\r\r\n", RouteFault::Form(3)),
-    (4, b"", RouteFault::Form(4)),
-    (4, b"traction 51000\ntraction 51000\n", RouteFault::Form(5)),
-    (4, b"traction 51000 \n", RouteFault::Form(4)),
-    (4, b" traction 51000\n", RouteFault::Form(4)),
-    (4, b"traction 51000\t\n", RouteFault::Form(4)),
-    (4, b"\ntraction 51000\n", RouteFault::Form(4)),
-    (4, b"traction 51000\r\r\n", RouteFault::Form(4)),
-    (5, b"", RouteFault::Form(5)),
-    (5, b"brake 100000\nbrake 100000\n", RouteFault::Form(6)),
-    (5, b"brake 100000 \n", RouteFault::Form(5)),
-    (5, b" brake 100000\n", RouteFault::Form(5)),
-    (5, b"brake 100000\t\n", RouteFault::Form(5)),
-    (5, b"\nbrake 100000\n", RouteFault::Form(5)),
-    (5, b"brake 100000\r\r\n", RouteFault::Form(5)),
-    (6, b"", RouteFault::Form(6)),
-    (6, b"latest 50\nlatest 50\n", RouteFault::Form(7)),
-    (6, b"latest 50 \n", RouteFault::Form(6)),
-    (6, b" latest 50\n", RouteFault::Form(6)),
-    (6, b"latest 50\t\n", RouteFault::Form(6)),
-    (6, b"\nlatest 50\n", RouteFault::Form(6)),
-    (6, b"latest 50\r\r\n", RouteFault::Form(6)),
-    (7, b"", RouteFault::Range(8)),
-    (7, b"step 100 0 1000 \n", RouteFault::Form(7)),
-    (7, b" step 100 0 1000\n", RouteFault::Form(7)),
-    (7, b"step 100 0 1000\t\n", RouteFault::Form(7)),
-    (7, b"\nstep 100 0 1000\n", RouteFault::Form(7)),
-    (7, b"step 100 0 1000\r\r\n", RouteFault::Form(7)),
-    (8, b"", RouteFault::Range(8)),
-    (8, b"step 100 0 1000 \n", RouteFault::Form(8)),
-    (8, b" step 100 0 1000\n", RouteFault::Form(8)),
-    (8, b"step 100 0 1000\t\n", RouteFault::Form(8)),
-    (8, b"\nstep 100 0 1000\n", RouteFault::Form(8)),
-    (8, b"step 100 0 1000\r\r\n", RouteFault::Form(8)),
-    (9, b"", RouteFault::Form(9)),
-    (9, b"end\nend\n", RouteFault::Form(10)),
-    (9, b"end \n", RouteFault::Form(9)),
-    (9, b" end\n", RouteFault::Form(9)),
-    (9, b"end\t\n", RouteFault::Form(9)),
-    (9, b"\nend\n", RouteFault::Form(9)),
-    (9, b"end\r\r\n", RouteFault::Form(9)),
-    (2, b"train  1000 1000 1000 0 0\n", RouteFault::Form(2)),
-    (2, b"train\t1000 1000 1000 0 0\n", RouteFault::Form(2)),
-    (3, b"top  1000\n", RouteFault::Form(3)),
-    (3, b"top\t1000\n", RouteFault::Form(3)),
-    (7, b"step  100 0 1000\n", RouteFault::Form(7)),
-    (7, b"step\t100 0 1000\n", RouteFault::Form(7)),
-    (1, b"route 2\n", RouteFault::Form(1)),
-    (1, b"route 01\n", RouteFault::Form(1)),
-    (1, b"Route 1\n", RouteFault::Form(1)),
-    (1, b"\xEF\xBB\xBFroute 1\n", RouteFault::Form(1)),
-    (9, b"end\r", RouteFault::Form(9)),
-    (9, b"end\n\n", RouteFault::Form(10)),
-    (9, b"end\nx", RouteFault::Form(10)),
-    (9, b"END\n", RouteFault::Form(9)),
-    (9, b"ende\n", RouteFault::Form(9)),
-    (9, b"step \n", RouteFault::Form(9)),
-    (9, b"step\n", RouteFault::Form(9)),
-    (9, b"en", RouteFault::Form(9)),
-    (7, b"end\n", RouteFault::Range(7)),
-    (8, b"end\n", RouteFault::Range(8)),
-    (7, b"stop\n", RouteFault::Form(7)),
-    (8, b"stop\n", RouteFault::Form(8)),
-    (7, b"\n", RouteFault::Form(7)),
-    (3, b"top +1000\n", RouteFault::Form(3)),
-    (3, b"top 1000.0\n", RouteFault::Form(3)),
-    (3, b"top 0x10\n", RouteFault::Form(3)),
-    (3, b"top \n", RouteFault::Form(3)),
-    (3, b"top -\n", RouteFault::Form(3)),
-    (3, b"top --1\n", RouteFault::Form(3)),
-    (3, b"top -0\n", RouteFault::Range(3)),
-    (3, b"top 0000000000000001000\n", RouteFault::Form(3)),
-    (3, b"top 1000000000000000000\n", RouteFault::Form(3)),
-    (3, b"top 999999999999999999\n", RouteFault::Range(3)),
-    (3, b"top -999999999999999999\n", RouteFault::Range(3)),
-    (3, b"top 1 0\n", RouteFault::Form(3)),
-    (3, b"top 1_0\n", RouteFault::Form(3)),
-    (3, b"top \xFF\x00\n", RouteFault::Form(3)),
-    (3, b"top 1e3\n", RouteFault::Form(3)),
-    (2, b"train 0 1000 1000 0 0\n", RouteFault::Range(2)),
-    (2, b"train 100001 1000 1000 0 0\n", RouteFault::Range(2)),
-    (2, b"train 1000 0 1000 0 0\n", RouteFault::Range(2)),
-    (2, b"train 1000 120001 1000 0 0\n", RouteFault::Range(2)),
-    (2, b"train 1000 1000 -1 0 0\n", RouteFault::Range(2)),
-    (2, b"train 1000 1000 10000001 0 0\n", RouteFault::Range(2)),
-    (2, b"train 1000 1000 0 -1 0\n", RouteFault::Range(2)),
-    (2, b"train 1000 1000 0 10000001 0\n", RouteFault::Range(2)),
-    (2, b"train 1000 120000 0 0 -1\n", RouteFault::Range(2)),
-    (2, b"train 1000 120000 0 0 10000001\n", RouteFault::Range(2)),
-    (3, b"top 0\n", RouteFault::Range(3)),
-    (3, b"top 12001\n", RouteFault::Range(3)),
-    (4, b"traction -1\n", RouteFault::Range(4)),
-    (4, b"traction 2000001\n", RouteFault::Range(4)),
-    (5, b"brake -1\n", RouteFault::Range(5)),
-    (5, b"brake 2000001\n", RouteFault::Range(5)),
-    (6, b"latest -1\n", RouteFault::Range(6)),
-    (6, b"latest 172801\n", RouteFault::Range(6)),
-    (7, b"step 0 0 1000\n", RouteFault::Range(7)),
-    (7, b"step 1001 0 1000\n", RouteFault::Range(7)),
-    (7, b"step 100 -1001 1000\n", RouteFault::Range(7)),
-    (7, b"step 100 1001 1000\n", RouteFault::Range(7)),
-    (7, b"step 100 0 0\n", RouteFault::Range(7)),
-    (7, b"step 100 0 12001\n", RouteFault::Range(7)),
-    (2, b"train 1000 1000 1000 0\n", RouteFault::Form(2)),
-    (2, b"train 1000 1000 1000 0 0 0\n", RouteFault::Form(2)),
-    (7, b"step 100 0\n", RouteFault::Form(7)),
-    (7, b"step 100 0 1000 0\n", RouteFault::Form(7)),
-    (8, b"step 0 0 0 0\n", RouteFault::Form(8)),
-    (2, b"train 0 x 0 0 0\n", RouteFault::Form(2)),
-    (2, b"train 1000 1 0 0 100\n", RouteFault::Range(7)),
-    (2, b"train 1000 1 0 0 101\n", RouteFault::Range(7)),
-];
-
-/// A line of the example, and what may stand in its place.
-const ACCEPTED: [(usize, &[u8]); 40] = [
-    (1, b"route 1\r\n"),
-    (2, b"train 1000 1000 1000 0 0\r\n"),
-    (3, b"top 1000\r\n"),
-    (4, b"traction 51000\r\n"),
-    (5, b"brake 100000\r\n"),
-    (6, b"latest 50\r\n"),
-    (7, b"step 100 0 1000\nstep 100 0 1000\n"),
-    (7, b"step 100 0 1000\r\n"),
-    (8, b"step 100 0 1000\nstep 100 0 1000\n"),
-    (8, b"step 100 0 1000\r\n"),
-    (9, b"end\r\n"),
-    (9, b"end"),
-    (9, b"step 100 0 1000\nend\n"),
-    (3, b"top 0000001000\n"),
-    (3, b"top 000000000000001000\n"),
-    (2, b"train 1 1000 1000 0 0\n"),
-    (2, b"train 100000 1000 1000 0 0\n"),
-    (2, b"train 1000 1 1000 0 0\n"),
-    (2, b"train 1000 120000 1000 0 0\n"),
-    (2, b"train 1000 1000 0 0 0\n"),
-    (2, b"train 1000 1000 10000000 0 0\n"),
-    (2, b"train 1000 1000 0 10000000 0\n"),
-    (2, b"train 1000 120000 0 0 0\n"),
-    (2, b"train 1000 120000 0 0 10000000\n"),
-    (3, b"top 1\n"),
-    (3, b"top 12000\n"),
-    (4, b"traction 0\n"),
-    (4, b"traction 2000000\n"),
-    (5, b"brake 0\n"),
-    (5, b"brake 2000000\n"),
-    (6, b"latest 0\n"),
-    (6, b"latest 172800\n"),
-    (7, b"step 1 0 1000\n"),
-    (7, b"step 1000 0 1000\n"),
-    (7, b"step 100 -1000 1000\n"),
-    (7, b"step 100 1000 1000\n"),
-    (7, b"step 100 0 1\n"),
-    (7, b"step 100 0 12000\n"),
-    (2, b"train 1000 1 0 0 99\n"),
-    (8, b"step 99 0 1000\n"),
+    b"route 1",
+    b"train 1000 1000 1000 0 0",
+    b"top 1000",
+    b"traction 51000",
+    b"brake 100000",
+    b"latest 50",
+    b"step 100 0 1000",
+    b"step 100 0 1000",
+    b"end",
 ];
 
 /// Reads a route with a counter of its own.
@@ -229,7 +47,7 @@ fn refusal(alloc: Global, text: &[u8]) -> Option<RouteFault> {
     }
 }
 
-/// The example with another text in the place of line n, counted from 1.
+/// The example with another text in the place of line n, counted from 1, and its end.
 fn changed(alloc: Global, n: usize, new: &[u8]) -> Result<Vec<u8>, AllocError> {
     let mut text = Vec::new(alloc);
     for (i, line) in LINES.iter().enumerate() {
@@ -237,9 +55,43 @@ fn changed(alloc: Global, n: usize, new: &[u8]) -> Result<Vec<u8>, AllocError> {
             text.extend_from_slice(new)?;
         } else {
             text.extend_from_slice(line)?;
+            text.push(b'\n')?;
         }
     }
     Ok(text)
+}
+
+/// The refusal of the example with a text before line n, and another in the place of the line's end.
+fn refusal_within(
+    alloc: Global,
+    n: usize,
+    line: &[u8],
+    before: &[u8],
+    behind: &[u8],
+) -> Result<Option<RouteFault>, AllocError> {
+    let mut new = Vec::new(alloc);
+    new.extend_from_slice(before)?;
+    new.extend_from_slice(line)?;
+    new.extend_from_slice(behind)?;
+    let text = changed(alloc, n, &new)?;
+    Ok(refusal(alloc, &text))
+}
+
+/// The refusal of the example with a number between two texts in the place of line n.
+fn refusal_of_number(
+    alloc: Global,
+    n: usize,
+    before: &[u8],
+    number: i32,
+    behind: &[u8],
+) -> Result<Option<RouteFault>, AllocError> {
+    let mut new = Vec::new(alloc);
+    new.extend_from_slice(before)?;
+    put_number(alloc, &mut new, i128::from(number))?;
+    new.extend_from_slice(behind)?;
+    new.push(b'\n')?;
+    let text = changed(alloc, n, &new)?;
+    Ok(refusal(alloc, &text))
 }
 
 /// The example with this many steps, and what ends it.
@@ -247,35 +99,212 @@ fn lengthened(alloc: Global, count: usize, end: &[u8]) -> Result<Vec<u8>, AllocE
     let mut text = Vec::new(alloc);
     for i in 0..6 {
         text.extend_from_slice(LINES[i])?;
+        text.push(b'\n')?;
     }
     for _ in 0..count {
         text.extend_from_slice(LINES[6])?;
+        text.push(b'\n')?;
     }
     text.extend_from_slice(end)?;
     Ok(text)
 }
 
 #[test]
-fn the_first_refused_line_counts(rt: HostRuntime) -> Result<(), Fail> {
-    for (n, new, fault) in REFUSED {
-        let text = changed(rt.alloc(), n, new)?;
-        assert_eq!(rt; refusal(rt.alloc(), &text), Some(fault), "{n}");
+fn each_line_has_one_form(rt: HostRuntime) -> Result<(), Fail> {
+    let alloc = rt.alloc();
+    let around: [(&[u8], &[u8]); 6] = [
+        (b"", b" \n"),
+        (b" ", b"\n"),
+        (b"", b"\t\n"),
+        (b"\n", b"\n"),
+        (b"", b"\r\r\n"),
+        (b"\xEF\xBB\xBF", b"\n"),
+    ];
+    let mut n = 0u32;
+    for line in LINES {
+        n = n.wrapping_add(1);
+        let place = n as usize;
+        for (before, behind) in around {
+            assert_eq!(rt;
+                refusal_within(alloc, place, line, before, behind)?,
+                Some(RouteFault::Form(n)),
+                "{n}"
+            );
+        }
+        assert_eq!(rt;
+            refusal_within(alloc, place, line, b"", b"\r\n")?,
+            None,
+            "{n}"
+        );
     }
-    for (n, new) in ACCEPTED {
-        let text = changed(rt.alloc(), n, new)?;
-        assert_eq!(rt; refusal(rt.alloc(), &text), None, "{n}");
+    Ok(())
+}
+
+#[test]
+fn lines_are_missed_and_doubled(rt: HostRuntime) -> Result<(), Fail> {
+    let alloc = rt.alloc();
+    let missed = [
+        RouteFault::Form(1),
+        RouteFault::Form(2),
+        RouteFault::Form(3),
+        RouteFault::Form(4),
+        RouteFault::Form(5),
+        RouteFault::Form(6),
+        RouteFault::Range(8),
+        RouteFault::Range(8),
+        RouteFault::Form(9),
+    ];
+    for (i, fault) in missed.iter().enumerate() {
+        let text = changed(alloc, i.wrapping_add(1), b"")?;
+        assert_eq!(rt; refusal(alloc, &text), Some(*fault), "{i}");
+    }
+    let doubled = [
+        Some(RouteFault::Form(2)),
+        Some(RouteFault::Form(3)),
+        Some(RouteFault::Form(4)),
+        Some(RouteFault::Form(5)),
+        Some(RouteFault::Form(6)),
+        Some(RouteFault::Form(7)),
+        None,
+        None,
+        Some(RouteFault::Form(10)),
+    ];
+    for (i, fault) in doubled.iter().enumerate() {
+        let mut new = Vec::new(alloc);
+        new.extend_from_slice(LINES[i])?;
+        new.push(b'\n')?;
+        new.extend_from_slice(LINES[i])?;
+        new.push(b'\n')?;
+        let text = changed(alloc, i.wrapping_add(1), &new)?;
+        assert_eq!(rt; refusal(alloc, &text), *fault, "{i}");
+    }
+    Ok(())
+}
+
+#[test]
+fn numbers_have_one_form(rt: HostRuntime) -> Result<(), Fail> {
+    let alloc = rt.alloc();
+    let others: [&[u8]; 12] = [
+        b"",
+        b"-",
+        b"+1000",
+        b"--1",
+        b"1e3",
+        b"1.0",
+        b"0x10",
+        b"1_0",
+        b" 1",
+        b"1 0",
+        b"\xFF\x00",
+        b"0000000000000001000",
+    ];
+    for field in others {
+        assert_eq!(rt;
+            refusal_within(alloc, 3, field, b"top ", b"\n")?,
+            Some(RouteFault::Form(3))
+        );
+    }
+    let numbers: [(&[u8], Option<RouteFault>); 5] = [
+        (b"0000001000", None),
+        (b"000000000000001000", None),
+        (b"-0", Some(RouteFault::Range(3))),
+        (b"999999999999999999", Some(RouteFault::Range(3))),
+        (b"-999999999999999999", Some(RouteFault::Range(3))),
+    ];
+    for (field, fault) in numbers {
+        assert_eq!(rt; refusal_within(alloc, 3, field, b"top ", b"\n")?, fault);
+    }
+    assert_eq!(rt; refusal_within(alloc, 6, b"-0", b"latest ", b"\n")?, None);
+    Ok(())
+}
+
+#[test]
+fn numbers_have_ranges(rt: HostRuntime) -> Result<(), Fail> {
+    let alloc = rt.alloc();
+    let ranges: [(u32, &[u8], i32, i32, &[u8]); 12] = [
+        (2, b"train ", 1, 100_000, b" 1000 1000 0 0"),
+        (2, b"train 1000 ", 1, 120_000, b" 1000 0 0"),
+        (2, b"train 1000 1000 ", 0, 10_000_000, b" 0 0"),
+        (2, b"train 1000 1000 0 ", 0, 10_000_000, b" 0"),
+        (2, b"train 1000 120000 0 0 ", 0, 10_000_000, b""),
+        (3, b"top ", 1, 12_000, b""),
+        (4, b"traction ", 0, 2_000_000, b""),
+        (5, b"brake ", 0, 2_000_000, b""),
+        (6, b"latest ", 0, 172_800, b""),
+        (7, b"step ", 1, 1000, b" 0 1000"),
+        (7, b"step 100 ", -1000, 1000, b" 1000"),
+        (8, b"step 100 0 ", 1, 12_000, b""),
+    ];
+    for (n, before, low, high, behind) in ranges {
+        let place = n as usize;
+        let out = Some(RouteFault::Range(n));
+        assert_eq!(rt;
+            refusal_of_number(alloc, place, before, low.wrapping_sub(1), behind)?,
+            out,
+            "{n}"
+        );
+        assert_eq!(rt;
+            refusal_of_number(alloc, place, before, low, behind)?,
+            None,
+            "{n}"
+        );
+        assert_eq!(rt;
+            refusal_of_number(alloc, place, before, high, behind)?,
+            None,
+            "{n}"
+        );
+        assert_eq!(rt;
+            refusal_of_number(alloc, place, before, high.wrapping_add(1), behind)?,
+            out,
+            "{n}"
+        );
+    }
+    Ok(())
+}
+
+#[test]
+fn other_lines_are_refused(rt: HostRuntime) -> Result<(), Fail> {
+    let alloc = rt.alloc();
+    let table: [(usize, &[u8], Option<RouteFault>); 20] = [
+        (1, b"route 2\n", Some(RouteFault::Form(1))),
+        (1, b"route 01\n", Some(RouteFault::Form(1))),
+        (2, b"train 1000 1000 1000 0\n", Some(RouteFault::Form(2))),
+        (
+            2,
+            b"train 1000 1000 1000 0 0 0\n",
+            Some(RouteFault::Form(2)),
+        ),
+        (2, b"train 0 x 0 0 0\n", Some(RouteFault::Form(2))),
+        (2, b"train  1000 1000 1000 0 0\n", Some(RouteFault::Form(2))),
+        (2, b"train 1000 1 0 0 100\n", Some(RouteFault::Range(7))),
+        (2, b"train 1000 1 0 0 99\n", None),
+        (7, b"step 100 0 0\n", Some(RouteFault::Range(7))),
+        (7, b"step 100 0\n", Some(RouteFault::Form(7))),
+        (8, b"step 0 0 0 0\n", Some(RouteFault::Form(8))),
+        (8, b"step\t100 0 1000\n", Some(RouteFault::Form(8))),
+        (7, b"end\n", Some(RouteFault::Range(7))),
+        (8, b"end\n", Some(RouteFault::Range(8))),
+        (7, b"stop\n", Some(RouteFault::Form(7))),
+        (9, b"END\n", Some(RouteFault::Form(9))),
+        (9, b"end\r", Some(RouteFault::Form(9))),
+        (9, b"end", None),
+        (9, b"end\n\n", Some(RouteFault::Form(10))),
+        (9, b"end\nx", Some(RouteFault::Form(10))),
+    ];
+    for (n, new, fault) in table {
+        let text = changed(alloc, n, new)?;
+        assert_eq!(rt; refusal(alloc, &text), fault, "{n}");
     }
     Ok(())
 }
 
 #[test]
 fn counts_of_lines_matter(rt: HostRuntime) -> Result<(), Fail> {
-    let table: [(usize, &[u8], Option<RouteFault>); 11] = [
+    let alloc = rt.alloc();
+    let table: [(usize, &[u8], Option<RouteFault>); 9] = [
         (0, b"end\n", Some(RouteFault::Range(7))),
         (1, b"end\n", Some(RouteFault::Range(8))),
-        (2, b"end\n", None),
         (3, b"end", None),
-        (3999, b"end\n", None),
         (4000, b"end\n", None),
         (4000, b"", Some(RouteFault::Form(4007))),
         (4000, b"step", Some(RouteFault::Form(4007))),
@@ -284,18 +313,18 @@ fn counts_of_lines_matter(rt: HostRuntime) -> Result<(), Fail> {
         (4001, b"", Some(RouteFault::TooManySteps)),
     ];
     for (count, end, fault) in table {
-        let text = lengthened(rt.alloc(), count, end)?;
-        assert_eq!(rt; refusal(rt.alloc(), &text), fault, "{count}");
+        let text = lengthened(alloc, count, end)?;
+        assert_eq!(rt; refusal(alloc, &text), fault, "{count}");
     }
-    let whole: [(&[u8], u32); 5] = [
+    let short: [(&[u8], u32); 5] = [
         (b"", 1),
         (b"\n", 1),
         (b"route 1", 2),
         (b"route 1\r", 1),
         (b"route 1\r\n", 2),
     ];
-    for (text, n) in whole {
-        assert_eq!(rt; refusal(rt.alloc(), text), Some(RouteFault::Form(n)), "{n}");
+    for (text, n) in short {
+        assert_eq!(rt; refusal(alloc, text), Some(RouteFault::Form(n)), "{n}");
     }
     Ok(())
 }
@@ -307,18 +336,19 @@ fn rules_are_those_of_the_text(rt: HostRuntime) -> Result<(), Fail> {
     assert_eq!(rt; rules.start(), 0);
     assert_eq!(rt; rules.top(), 1000);
     assert_eq!(rt; rules.steps(), 3);
-    for (k, place) in [0, 100, 200, 500].iter().enumerate() {
-        assert_eq!(rt; rules.place(k), *place);
+    let places = [0, 100, 200, 500];
+    for k in 0..4 {
+        assert_eq!(rt; rules.place(k), places[k]);
         assert_eq!(rt; rules.stop(k), k == 3);
         assert_eq!(rt; rules.dwell(k), 0);
     }
-    for (i, limit) in [1000, 1000, 900].iter().enumerate() {
-        assert_eq!(rt; rules.limit(i), *limit);
+    let limits = [1000, 1000, 900];
+    for i in 0..3 {
+        assert_eq!(rt; rules.limit(i), limits[i]);
     }
     assert_eq!(rt; rules.row(0).work(0, 800), 6_600_000_000_000);
     assert_eq!(rt; rules.timings().len(), 1);
     assert_eq!(rt; rules.timings()[0].point, 3);
     assert_eq!(rt; rules.timings()[0].latest, 50_000);
-    assert_eq!(rt; rules.step_kept(0, 0, 1000), true);
     Ok(())
 }

@@ -1,6 +1,8 @@
-use Rattle.std.proofs.Common.{rules, refl, ◌≡◌, ◌∙◌, pos, get_or, w64}
+use Rattle.std.proofs.Common.{◌≡◌, true, rules, refl, ◌∙◌, pos, get_or, w64}
 use Rattle.std.proofs.lemmas.Int.{to_z-of_z}
 use mir.Val.{SFits}
+use Rattle.std.specs.Int.RustNames.{unsigned_abs}
+use Rattle.rail_specs.specs.Route.{is_within}
 use Rattle.drive_rules.proofs.NumbersRead.{some_then, none_then}
 use Rattle.drive_rules.proofs.RouteEntries.{step-made, limit-refused, drag-refused}
 use Rattle.drive_rules.proofs.route.entries.read_step.Goals as goal
@@ -18,7 +20,8 @@ returns-in-Ok-clause-value g c =
     let f0 : SFits w64 (get_or c.read_after.new.numbers 0 (pos 0)) = search rules in
     let f1 : SFits w64 (get_or c.read_after.new.numbers 1 (pos 0)) = search rules in
     let f2 : SFits w64 (get_or c.read_after.new.numbers 2 (pos 0)) = search rules in
-    let limit = some_then _ _ _ (simp to_z-of_z at c.in-Some-natural_within.ensures.value) in
+    let limit : (is_within (pos 1) (pos 12000) (get_or c.read_after.new.numbers 2 (pos 0)) ≡ true) × (c.in-Some-natural_within.limit ≡ unsigned_abs (get_or c.read_after.new.numbers 2 (pos 0))) =
+    some_then _ _ _ (simp to_z-of_z at c.in-Some-natural_within.ensures.value) in
     let step = some_then _ _ _ (simp to_z-of_z at c.in-Some.ensures.value) in
     let made : c.in-Ok.row ≡ c.in-Some.step = c.in-Ok.ensures.made in
     step-made c.args.train.now c.args.n c.args.line.now c.read_after.new.numbers c.in-Ok.row c.in-Some-natural_within.limit c.if-n.false c.if-not-read_after.ensures step.0 limit.0
