@@ -1,0 +1,6 @@
+//! Train files, read exactly.
+#![tactic(auto)]
+
+mod train;
+
+pub use train::Train;

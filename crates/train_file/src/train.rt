@@ -1,0 +1,41 @@
+//! A train.
+ghost use Rattle.std.specs.Prelude.{◌≡◌, IfOk};
+
+use force_table::ForceTable;
+use std::alloc::{AllocError, Global};
+
+/// What a train is: its masses, its resistance A + B v + C v^2 (Davis), and its greatest forces by speed.
+#[derive(Drop)]
+pub struct Train {
+    /// The mass, 1/10 tonne, 1 to 100,000.
+    pub mass: u32,
+    /// The mass with its rotating parts, 1/10 tonne, 1 to 120,000.
+    pub inertia: u32,
+    /// The constant part of the resistance, N, at most 10,000,000.
+    pub a: u32,
+    /// The part of the resistance that grows with speed, 1/1000 N per cm/s, at most 10,000,000.
+    pub b: u32,
+    /// The part that grows with the square of speed, 1/1,000,000 N per (cm/s)^2, at most 10,000,000.
+    pub c: u32,
+    /// The greatest traction force by speed, N.
+    pub traction: ForceTable,
+    /// The greatest brake force by speed, N. Its top is that of the traction.
+    pub brake: ForceTable,
+}
+
+impl Train {
+    /// An equal train of its own.
+    pub fn copy(&self, alloc: Global) -> Result<Train, AllocError>
+        ensures { IfOk result (λ train. train ≡ self.now) }
+    {
+        Ok(Train {
+            mass: self.mass,
+            inertia: self.inertia,
+            a: self.a,
+            b: self.b,
+            c: self.c,
+            traction: self.traction.copy(alloc)?,
+            brake: self.brake.copy(alloc)?,
+        })
+    }
+}
