@@ -58,12 +58,12 @@ impl Rules {
             } else {
                 Some(Rule::Start)
             }
-        } else if self.stop(k) {
-            if v == 0 { None } else { Some(Rule::Stop) }
+        } else if self.stop(k) == (v == 0) {
+            None
         } else if v == 0 {
             Some(Rule::Standing)
         } else {
-            None
+            Some(Rule::Stop)
         }
     }
 
