@@ -6,8 +6,7 @@ use Rattle.std.proofs.lemmas.Int.{ints}
 use Rattle.std.proofs.lemmas.Bool.{cases_eq}
 use Rattle.std.proofs.lemmas.Bool.Decides.{nat_tests}
 use Rattle.std.proofs.lemmas.List.{get_or_default}
-use Rattle.rail_specs.specs.Rules.{Rules, IsDrive, IsStepKept, IsPassed, step_at}
-use Rattle.rail_specs.specs.Step.{work}
+use Rattle.rail_specs.specs.Rules.{Rules, IsDrive, IsStepKept, IsPassed}
 use Rattle.rail_specs.specs.Times.{IsOnTimeUp, time_up}
 use Rattle.rail_specs.specs.Rules.{no_timing}
 use Rattle.drive_rules.specs.Shaped.{IsShaped}
@@ -50,12 +49,12 @@ rule_kept r i v0 v1 h = grind (arith, nat_tests, ints)
 pub kept_rule : (r : Rules) (i v0 v1 : ℕ) → IsStepKept r i v0 v1 → step_rule r i v0 v1 ≡ None
 kept_rule r i v0 v1 h = grind (arith, nat_tests, ints)
 
--- a step has its work exactly where it is kept
-pub kept_with_work : (r : Rules) (i v0 v1 : ℕ) (result : Result ℤ Rule) →
-    IfOk result (λ w. (step_rule r i v0 v1 ≡ None) × (w ≡ work (step_at r i) v0 v1) × (unsigned_abs w < 2 ^ 62)) → IfErr result (λ rule. step_rule r i v0 v1 ≡ Some rule) →
+-- a step has a cost exactly where it is kept
+pub kept_with_cost : (r : Rules) (i v0 v1 : ℕ) (cost : ℤ) (result : Result ℤ Rule) →
+    IfOk result (λ c. (step_rule r i v0 v1 ≡ None) × (c ≡ cost) × (unsigned_abs c ≤ 2 ^ 62)) → IfErr result (λ rule. step_rule r i v0 v1 ≡ Some rule) →
     IsTrue (is_ok result) ↔ IsStepKept r i v0 v1
-kept_with_work r i v0 v1 (Ok w) h e = (λ _. rule_kept r i v0 v1 h.0, λ _. refl)
-kept_with_work r i v0 v1 (Err rule) h e = (λ b. cc, λ k. let n = kept_rule r i v0 v1 k in cc)
+kept_with_cost r i v0 v1 cost (Ok w) h e = (λ _. rule_kept r i v0 v1 h.0, λ _. refl)
+kept_with_cost r i v0 v1 cost (Err rule) h e = (λ b. cc, λ k. let n = kept_rule r i v0 v1 k in cc)
 
 pub step_kept : (r : Rules) (speeds : List ℕ) (i : ℕ) → step_fault r speeds i ≡ None → IsStepKept r i (slice_index speeds i) (slice_index speeds (i + 1))
 step_kept r speeds i h = grind (arith, nat_tests, ints)

@@ -58,12 +58,12 @@ impl Rules {
             } else {
                 Some(Rule::Start)
             }
-        } else if self.stop(k) {
-            if v == 0 { None } else { Some(Rule::Stop) }
+        } else if self.stop(k) == (v == 0) {
+            None
         } else if v == 0 {
             Some(Rule::Standing)
         } else {
-            None
+            Some(Rule::Stop)
         }
     }
 
@@ -81,24 +81,6 @@ impl Rules {
             }
         }
         None
-    }
-
-    /// The cost of step i's work from v0 to v1, or the first of its rules that these speeds break.
-    fn step_cost<C: StepCost>(
-        &self,
-        i: usize,
-        row: &StepRow,
-        v0: u16,
-        v1: u16,
-        cost: &C,
-    ) -> Result<i128, Rule>
-        requires step { i < length self.now.steps }
-        requires row { row.now ≡ step_at self.now i }
-        ensures kept { IfOk result (λ c. (step_rule self.now i v0 v1 ≡ None) × (c ≡ C.cost cost.now (work (step_at self.now i) v0 v1)) × (unsigned_abs c ≤ 2 ^ 62)) }
-        ensures broken { IfErr result (λ rule. step_rule self.now i v0 v1 ≡ Some rule) }
-    {
-        let work = self.kept_work(i, row, v0, v1)?;
-        Ok(cost.of(work as i128))
     }
 
     /// The sum of the costs of the steps' work, or the first step whose rules the speeds break.
@@ -137,8 +119,7 @@ impl Rules {
         let dwells = self.parts.dwells.as_slice();
         let mut sum = time;
         for i in from..to {
-            sum += dwells[i] as u64;
-            sum += time_up(rows[i].metres(), speeds[i], speeds[i + 1]) as u64;
+            sum += dwells[i] as u64 + time_up(rows[i].metres(), speeds[i], speeds[i + 1]) as u64;
         }
         sum
     }

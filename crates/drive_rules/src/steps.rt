@@ -8,6 +8,7 @@ ghost use Rattle.drive_rules.specs.Verdict.{force_rule, step_rule};
 use crate::judge::Rule;
 use crate::rules::Rules;
 use force_table::SpeedTable;
+use rail_base::{StepCost, Traction};
 use step_energy::StepRow;
 
 impl Rules {
@@ -50,48 +51,60 @@ impl Rules {
         self.parts.rows[i].force_work(self.parts.brake.at(v0))
     }
 
-    /// The work of step i from v0 to v1, in 0.5 microjoule, or the first of its rules that these speeds break.
-    pub(crate) fn kept_work(&self, i: usize, row: &StepRow, v0: u16, v1: u16) -> Result<i64, Rule>
+    /// The cost of step i's work from v0 to v1, or the first of its rules that these speeds break.
+    pub(crate) fn step_cost<C: StepCost>(
+        &self,
+        i: usize,
+        row: &StepRow,
+        v0: u16,
+        v1: u16,
+        cost: &C,
+    ) -> Result<i128, Rule>
         requires step { i < length self.now.steps }
         requires row { row.now ≡ step_at self.now i }
-        ensures kept { IfOk result (λ w. (step_rule self.now i v0 v1 ≡ None) × (w ≡ work (step_at self.now i) v0 v1) × (unsigned_abs w < 2 ^ 62)) }
+        ensures kept { IfOk result (λ c. (step_rule self.now i v0 v1 ≡ None) × (c ≡ C.cost cost.now (work (step_at self.now i) v0 v1)) × (unsigned_abs c ≤ 2 ^ 62)) }
         ensures broken { IfErr result (λ rule. step_rule self.now i v0 v1 ≡ Some rule) }
     {
-        let parts = &self.parts;
         let fastest = v0.max(v1);
-        if fastest > parts.limits[i] {
+        if fastest > self.parts.limits[i] {
             return Err(Rule::Limit);
         }
-        if fastest > parts.top {
+        if fastest > self.parts.top {
             return Err(Rule::Top);
         }
-        let work = row.short_work(v0, v1);
-        match self.force_rule(i, v0, v1, work) {
-            None => Ok(work),
-            Some(rule) => Err(rule),
-        }
+        self.force_cost(i, v0, v1, row.short_work(v0, v1), cost)
     }
 
-    /// The rule on forces that step i with this work breaks from v0 to v1. Only positive work asks for traction, and only
-    /// negative work for brakes.
-    fn force_rule(&self, i: usize, v0: u16, v1: u16, work: i64) -> Option<Rule>
+    /// The cost of step i's work, or the first rule on forces that it breaks from v0 to v1.
+    ///
+    /// Only positive work asks for traction, and only negative work for brakes. Each arm knows the sign of its work, so that
+    /// the cost of traction takes no second test.
+    fn force_cost<C: StepCost>(
+        &self,
+        i: usize,
+        v0: u16,
+        v1: u16,
+        work: i64,
+        cost: &C,
+    ) -> Result<i128, Rule>
         requires step { i < length self.now.steps }
         requires entry { v0 ≤ self.now.top }
         requires exit { v1 ≤ self.now.top }
         requires known { work ≡ work_of (step_at self.now i) v0 v1 }
         requires small { unsigned_abs work < 2 ^ 62 }
-        ensures { result ≡ force_rule self.now i v0 v1 }
+        ensures kept { IfOk result (λ c. (force_rule self.now i v0 v1 ≡ None) × (c ≡ C.cost cost.now work) × (unsigned_abs c ≤ 2 ^ 62)) }
+        ensures broken { IfErr result (λ rule. force_rule self.now i v0 v1 ≡ Some rule) }
     {
         if work > 0 {
             if work > self.traction_limit(i, v1) {
-                Some(Rule::Traction)
-            } else {
-                None
+                return Err(Rule::Traction);
             }
-        } else if is_held(work, self.brake_limit(i, v0)) {
-            None
+            Ok(cost_of_work(work, cost))
         } else {
-            Some(Rule::Brake)
+            if !is_held(work, self.brake_limit(i, v0)) {
+                return Err(Rule::Brake);
+            }
+            Ok(cost_of_work(work, cost))
         }
     }
 
@@ -100,7 +113,7 @@ impl Rules {
         requires { i < length self.now.steps }
         ensures { IsTrue result ↔ IsStepKept self.now i v0 v1 }
     {
-        self.kept_work(i, self.row(i), v0, v1).is_ok()
+        self.step_cost(i, self.row(i), v0, v1, &Traction).is_ok()
     }
 
     /// Whether the traction takes the train over step i from v0 to v1, whatever the limit.
@@ -142,4 +155,13 @@ fn is_held(work: i64, most: i64) -> bool
     ensures { IsTrue result ↔ (neg_ℤ most ≤ℤ work) }
 {
     work + most >= 0
+}
+
+/// The cost of work.
+fn cost_of_work<C: StepCost>(work: i64, cost: &C) -> i128
+    requires { unsigned_abs work < 2 ^ 62 }
+    ensures value { result ≡ C.cost cost.now work }
+    ensures small { unsigned_abs result ≤ 2 ^ 62 }
+{
+    cost.of(work as i128)
 }
