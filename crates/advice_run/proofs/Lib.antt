@@ -1,3 +1,3 @@
 pub mod PlanLemmas
-pub mod FileLemmas
 pub mod WordsLemmas
+pub mod StageLemmas

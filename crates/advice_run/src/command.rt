@@ -4,10 +4,12 @@ ghost use Rattle.std.specs.Prelude.{◌≡◌, ◌≢◌, ◌≤◌, ℕ, List, 
 ghost use Rattle.advice_run.specs.Words.{command_of, Route};
 ghost use Rattle.advice_run.specs.Outcome.{MayWrite, Names};
 
-use crate::answer::{Answer, MOST_BYTES, read_fault, route_answer, usage};
+use crate::answer::{Answer, usage};
 use crate::command_line::read_route_words;
+use crate::plan::plan_answer;
+use crate::stage::{Stage, route_stage};
 use crate::words::Words;
-use edge_io::{FetchFault, Shelf};
+use edge_io::Shelf;
 use std::alloc::{AllocError, Global};
 use std::sync::ledger::Ledger;
 use step_energy::Steps;
@@ -45,9 +47,8 @@ fn answer_route<S: Shelf, L: Ledger>(
     ensures kept { (n : List ℕ) → S.contents shelf.new n ≡ S.contents shelf.old n }
     ensures others { (n : List ℕ) → n ≢ name.now → S.faults shelf.new n ≡ S.faults shelf.old n }
 {
-    match shelf.fetch(alloc, name, MOST_BYTES + 1) {
-        Ok(file) => route_answer(alloc, file.as_slice(), tolerance, steps),
-        Err(FetchFault::Failed) => read_fault(alloc, b"route"),
-        Err(FetchFault::NoMemory) => Err(AllocError),
+    match route_stage(alloc, shelf, name, steps)? {
+        Stage::Read(rules) => plan_answer(alloc, &rules, tolerance),
+        Stage::Ends(answer) => Ok(answer),
     }
 }

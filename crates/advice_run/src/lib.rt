@@ -6,6 +6,7 @@ mod command;
 mod command_line;
 mod plan;
 mod program;
+mod stage;
 mod words;
 
 pub use program::run;

@@ -1,18 +1,28 @@
-use Rattle.std.proofs.Common.{sym, List, ℕ, subst}
-use Rattle.advice_run.specs.Outcome.{MayWrite, IsRouteAnswer}
-use Rattle.advice_run.specs.declared.answer.Answer.{Answer}
-use Rattle.rail_specs.specs.Faults.{Fetches, Told}
+use Rattle.std.proofs.Common.{List, ℕ, codes}
+use Rattle.rail_specs.specs.Plan.{IsPlanAnswer}
+use Rattle.rail_specs.specs.Rules.{Rules}
+use Rattle.rail_specs.specs.Route.{rules_of_text}
+use Rattle.rail_specs.specs.Faults.{Told}
+use Rattle.advice_run.specs.Outcome.{MayWrite, route_fault_words}
 use Rattle.advice_run.specs.Words.{Route}
+use Rattle.advice_run.specs.declared.answer.Answer.{Answer}
 use Rattle.advice_run.proofs.PlanLemmas.{ok_map}
-use Rattle.advice_run.proofs.FileLemmas.{route_may_write}
+use Rattle.advice_run.proofs.StageLemmas.{ends_there, goes_on}
 use Rattle.advice_run.proofs.command.answer_route.Goals as goal
 
-pub returns-in-Ok-clause-may : goal.returns-in-Ok-clause-may
-returns-in-Ok-clause-may g c =
+pub returns-in-Read-clause-may : goal.returns-in-Read-clause-may
+returns-in-Read-clause-may g c =
     let told : List ℕ → Told = g.S.Shelf.contents c.args.shelf.now in
-    let got : Fetches (told c.args.name.now) 1048577 c.as_slice.result.now =
-    subst (λ (xs : List ℕ). Fetches (told c.args.name.now) 1048577 xs) (sym c.as_slice.ensures.value) c.in-Ok.ensures.bytes in
-    ok_map c.route_answer.result (λ (a : Answer). IsRouteAnswer c.args.tolerance c.as_slice.result.now a.status a.text.items)
-    (λ (a : Answer). MayWrite (Route c.args.name.now c.args.tolerance) told (g.S.Shelf.faults c.args.shelf.now) (g.S.Shelf.faults c.fetch.new.self) a.status a.text.items)
-    (λ a h. route_may_write c.args.name.now c.args.tolerance told (g.S.Shelf.faults c.args.shelf.now) (g.S.Shelf.faults c.fetch.new.self) c.as_slice.result.now a.status a.text.items got h)
-    c.route_answer.ensures
+    let before : List ℕ → ℕ = g.S.Shelf.faults c.args.shelf.now in
+    let now : List ℕ → ℕ = g.S.Shelf.faults c.route_stage.new.shelf in
+    let says = rw c.in-Read.is at c.in_ok-rules.ensures.stage in
+    ok_map c.plan_answer.result (λ (a : Answer). IsPlanAnswer c.in-Read.rules c.args.tolerance a.status a.text.items)
+    (λ (a : Answer). MayWrite (Route c.args.name.now c.args.tolerance) told before now a.status a.text.items)
+    (λ a h. goes_on (codes "route") c.args.name.now told before now rules_of_text route_fault_words (λ (r : Rules). IsPlanAnswer r c.args.tolerance) c.in-Read.rules a.status a.text.items says h)
+    c.plan_answer.ensures
+
+pub returns-in-Ends-clause-may : goal.returns-in-Ends-clause-may
+returns-in-Ends-clause-may g c =
+    let ends = rw c.in-Ends.is at c.in_ok-rules.ensures.stage in
+    ends_there (codes "route") c.args.name.now (g.S.Shelf.contents c.args.shelf.now) (g.S.Shelf.faults c.args.shelf.now) (g.S.Shelf.faults c.route_stage.new.shelf)
+    rules_of_text route_fault_words (λ (r : Rules). IsPlanAnswer r c.args.tolerance) c.in-Ends.answer.status c.in-Ends.answer.text.items ends

@@ -1,0 +1,57 @@
+-- What comes of the files of a run, one after the other.
+use Rattle.std.proofs.Common.{ℕ, ◌≡◌, ◌≤◌, ◌<◌, ◌∙◌, List, Option, Some, None, Bool, true, false, length, take, refl, sym, arith, inl, inr, ◌⊎◌}
+use Rattle.std.specs.Prelude.{Result, Ok, Err, MatchBool, MatchResult, Vec, nat_lt}
+use Rattle.std.specs.declared.alloc.Global.{Global}
+use Rattle.std.proofs.lemmas.Bool.{le-ltb}
+use Rattle.std.proofs.lemmas.List.{take_all, length-take}
+use Rattle.rail_specs.specs.Faults.{Told, Fetches}
+use Rattle.advice_run.specs.Outcome.{IsRefusal, MayHold, MayRead, Says, most_bytes}
+use Rattle.advice_run.specs.Stage.{IsMeasured, IsFetched}
+use Rattle.advice_run.specs.declared.stage.Stage.{Stage}
+use Rattle.advice_run.specs.declared.stage.Stage.TheVariants.{Read, Ends}
+
+-- bytes that were fetched and are short enough are the whole file
+held_short : (t : Told) (got : List ℕ) → Fetches t 1048577 got → length got ≤ most_bytes → MayHold t got
+held_short None got f s = tt
+held_short (Some None) got f s = absurd f
+held_short (Some (Some file)) got f s =
+    let cut : length (take 1048577 file) ≤ most_bytes = rw f at s in
+    let few : length file ≤ 1048577 = omega (arith, length-take 1048577 file) in
+    f ∙ take_all 1048577 file few
+
+-- and those that are too long are the front of a file that is too long
+held_long : (t : Told) (got : List ℕ) → Fetches t 1048577 got → most_bytes < length got → (file : List ℕ) × (MayHold t file × (most_bytes < length file))
+held_long None got f s = (got, (tt, s))
+held_long (Some None) got f s = absurd f
+held_long (Some (Some file)) got f s =
+    let cut : most_bytes < length (take 1048577 file) = rw f at s in
+    (file, (refl, omega (arith, length-take 1048577 file)))
+
+pub fetched_from : (role name : List ℕ) (told : List ℕ → Told) (before now : List ℕ → ℕ) (got : List ℕ) (stage : Stage (Vec ℕ Global)) → Fetches (told name) 1048577 got
+    → IsMeasured role got stage → IsFetched role name told before now stage
+fetched_from role name told before now got (Read bytes) f m =
+    let short : length got ≤ most_bytes = m.0 in
+    rw m.1 (held_short (told name) got f short, short)
+fetched_from role name told before now got (Ends answer) f m =
+    let l = held_long (told name) got f m.0 in
+    inr (l.0, (l.1.0, l.1.1, m.1))
+
+weaker_result : {A F : Type 0} (r : Result A F) (P : A → Type 0) (Q : F → Type 0) → MatchResult r (λ a. ⊥) Q → MatchResult r P Q
+weaker_result (Ok a) P Q h = absurd h
+weaker_result (Err e) P Q h = h
+
+weaker : {A F : Type 0} (long : Bool) (R : Type 0) (r : Result A F) (P : A → Type 0) (Q : F → Type 0) → MatchBool long R (MatchResult r (λ a. ⊥) Q) → MatchBool long R (MatchResult r P Q)
+weaker true R r P Q h = h
+weaker false R r P Q h = weaker_result r P Q h
+
+-- an answer that ends the run at a file
+pub ends_there : {A F : Type 0} (role name : List ℕ) (told : List ℕ → Told) (before now : List ℕ → ℕ) (read : List ℕ → Result A F) (words : F → List ℕ) (next : A → ℕ → List ℕ → Type 0)
+    (status : ℕ) (text : List ℕ) → MayRead role name told before now read words (λ a s t. ⊥) status text → MayRead role name told before now read words next status text
+ends_there role name told before now read words next status text (inl fault) = inl fault
+ends_there role name told before now read words next status text (inr h) =
+    inr (h.0, (h.1.0, weaker (nat_lt most_bytes (length h.0)) _ (read h.0) (λ a. next a status text) (λ f. IsRefusal role (words f) status text) h.1.1))
+
+-- an answer to what a file says
+pub goes_on : {A F : Type 0} (role name : List ℕ) (told : List ℕ → Told) (before now : List ℕ → ℕ) (read : List ℕ → Result A F) (words : F → List ℕ) (next : A → ℕ → List ℕ → Type 0)
+    (said : A) (status : ℕ) (text : List ℕ) → Says name told read said → next said status text → MayRead role name told before now read words next status text
+goes_on role name told before now read words next said status text s h = inr (s.file, (s.held, rw (le-ltb most_bytes (length s.file) s.short, s.reads) h))
