@@ -2,11 +2,15 @@
 use Rattle.std.specs.Prelude.{ℕ, ◌≡◌, ◌≤◌, ◌++◌, ◌∷◌, List, [], ⊤, Option, Some, None, Result, Ok, pos, codes, length, take, MatchBool, MatchResult, ◌⊎◌, nat_lt}
 use Rattle.rail_specs.specs.declared.RouteFault.{RouteFault}
 use Rattle.rail_specs.specs.declared.RouteFault.TheVariants.{Form, Range, TooManySteps, NoMemory}
+use Rattle.line_file.specs.declared.line.LineFault.{LineFault}
+use Rattle.line_file.specs.declared.line.LineFault.TheVariants as line
+use Rattle.line_file.specs.declared.service.ServiceFault.{ServiceFault}
+use Rattle.line_file.specs.declared.service.ServiceFault.TheVariants as service
 use Rattle.rail_specs.specs.Faults.{Rose, Told, Appends}
-use Rattle.rail_specs.specs.Report.{line, spaced}
+use Rattle.rail_specs.specs.Report.{line as text_line, spaced}
 use Rattle.rail_specs.specs.Route.{rules_of_text}
 use Rattle.rail_specs.specs.Plan.{IsPlanAnswer}
-use Rattle.advice_run.specs.Words.{Command, Usage, Route}
+use Rattle.advice_run.specs.Words.{Command, Usage, Route, Plan}
 
 -- the bytes of a file, at most
 abbrev pub most_bytes : ℕ
@@ -14,15 +18,15 @@ most_bytes = 1048576
 
 -- the text about usage: a line for each command
 abbrev pub usage_text : List ℕ
-usage_text = line (codes "usage: advice route FILE [--tolerance N]")
+usage_text = text_line (codes "usage: advice route FILE [--tolerance N]")
 
 -- a file or the rules are refused: whose fault it is, and the fault's words
 abbrev pub refused_text : List ℕ → List ℕ → List ℕ
-refused_text role fault = line (codes "refused " ++ role ++ 32 ∷ fault)
+refused_text role fault = text_line (codes "refused " ++ role ++ 32 ∷ fault)
 
 -- the file of this role can't be read
 abbrev pub read_fault_text : List ℕ → List ℕ
-read_fault_text role = line (codes "read fault " ++ role)
+read_fault_text role = text_line (codes "read fault " ++ role)
 
 -- the words of a fault of a route
 abbrev pub route_fault_words : RouteFault → List ℕ
@@ -30,6 +34,32 @@ route_fault_words (Form number) = codes "form" ++ spaced (pos number)
 route_fault_words (Range number) = codes "range" ++ spaced (pos number)
 route_fault_words TooManySteps = codes "too-many-steps"
 route_fault_words NoMemory = []
+
+-- the words of a fault of a line file
+abbrev pub line_fault_words : LineFault → List ℕ
+line_fault_words line.BadHeader = codes "bad-header"
+line_fault_words (line.BadRow n) = codes "bad-row" ++ spaced (pos n)
+line_fault_words line.TooManyRows = codes "too-many-rows"
+line_fault_words (line.BadKind n) = codes "bad-kind" ++ spaced (pos n)
+line_fault_words (line.BadNumber n) = codes "bad-number" ++ spaced (pos n)
+line_fault_words (line.OutOfRange n) = codes "out-of-range" ++ spaced (pos n)
+line_fault_words (line.Gap n) = codes "gap" ++ spaced (pos n)
+line_fault_words line.NoSections = codes "no-sections"
+line_fault_words line.EndsDiffer = codes "ends-differ"
+line_fault_words line.NoMemory = []
+
+-- the words of a fault of a service file
+abbrev pub service_fault_words : ServiceFault → List ℕ
+service_fault_words service.BadHeader = codes "bad-header"
+service_fault_words (service.BadRow n) = codes "bad-row" ++ spaced (pos n)
+service_fault_words service.TooManyRows = codes "too-many-rows"
+service_fault_words (service.BadNumber n) = codes "bad-number" ++ spaced (pos n)
+service_fault_words (service.OutOfRange n) = codes "out-of-range" ++ spaced (pos n)
+service_fault_words (service.NotRising n) = codes "not-rising" ++ spaced (pos n)
+service_fault_words service.TooFew = codes "too-few"
+service_fault_words service.NoFinalLatest = codes "no-final-latest"
+service_fault_words service.TooManyLatest = codes "too-many-latest"
+service_fault_words service.NoMemory = []
 
 -- ---- one file
 
@@ -70,6 +100,7 @@ abbrev pub MayWrite : Command → (List ℕ → Told) → (List ℕ → ℕ) →
 MayWrite Usage told before now status text = (status ≡ 2) × (text ≡ usage_text)
 MayWrite (Route name tolerance) told before now status text =
     MayRead (codes "route") name told before now rules_of_text route_fault_words (λ rules. IsPlanAnswer rules tolerance) status text
+MayWrite (Plan line train service step tolerance) told before now status text = ⊥
 
 -- a whole text that the run may write was written, with its own status
 pub record Wrote (command : Command) (told : List ℕ → Told) (before now : List ℕ → ℕ) (was is : Option (List ℕ)) (status : ℕ) : Type 0 where
@@ -90,6 +121,7 @@ pub record WroteFront (command : Command) (told : List ℕ → Told) (before now
 abbrev pub Names : Command → List ℕ → Type 0
 Names Usage name = ⊥
 Names (Route file tolerance) name = name ≡ file
+Names (Plan line train service step tolerance) name = (name ≡ line) ⊎ (name ≡ train) ⊎ (name ≡ service)
 
 -- ---- a file that was read within the run
 

@@ -29,3 +29,8 @@ abbrev pub IsStage : {A F : Type 0} → List ℕ → List ℕ → (List ℕ → 
 IsStage role name told before now read words (Read said) = Says name told read said
 IsStage role name told before now read words (Ends answer) =
     MayRead role name told before now read words (λ said status text. ⊥) answer.status answer.text.items
+
+-- a fact about what a file says
+abbrev pub OnRead : {A : Type 0} → (A → Type 0) → Stage A → Type 0
+OnRead P (Read said) = P said
+OnRead P (Ends answer) = Unit {0}

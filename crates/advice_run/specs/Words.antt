@@ -12,6 +12,9 @@ pub data Command : Type 0 where
   Usage : Command
   -- the greatest drive over the route in the file of this name, at this tolerance in per mille
   Route : List ℕ → ℕ → Command
+  -- the greatest drive over the line, by the train and for the service in the files of these names, with a grid of this step in
+  -- metres, at this tolerance in per mille
+  Plan : List ℕ → List ℕ → List ℕ → ℕ → ℕ → Command
 
 -- ---- the simple commands
 
@@ -26,6 +29,11 @@ option id standard = record (new_rule id) { long = Some id; action = Some Set; d
 -- `route FILE [--tolerance N]`
 abbrev pub route_app : App
 route_app = with_rule (with_rule (new_app (codes "route")) (positional (codes "file"))) (option (codes "tolerance") (codes "10"))
+
+-- `plan LINE TRAIN SERVICE [--step N] [--tolerance N]`
+abbrev pub plan_app : App
+plan_app = with_rule (with_rule (with_rule (with_rule (with_rule (new_app (codes "plan")) (positional (codes "line"))) (positional (codes "train"))) (positional (codes "service")))
+    (option (codes "step") (codes "100"))) (option (codes "tolerance") (codes "10"))
 
 -- ---- what clap takes of the words, and what the texts that it takes mean
 
@@ -56,7 +64,22 @@ abbrev pub route_of_rows : Option (List Row) → Command
 route_of_rows None = Usage
 route_of_rows (Some rows) = route_of_number (value_of (codes "file") rows) (number_in 0 1000 (value_of (codes "tolerance") rows))
 
+abbrev pub plan_of_numbers : Text → Text → Text → Option ℕ → Option ℕ → Command
+plan_of_numbers line train service None tolerance = Usage
+plan_of_numbers line train service (Some step) None = Usage
+plan_of_numbers line train service (Some step) (Some tolerance) = Plan line train service step tolerance
+
+-- `plan` with a step of 10 to 1,000 metres and a tolerance of 0 to 1,000 per mille
+abbrev pub plan_of_rows : Option (List Row) → Command
+plan_of_rows None = Usage
+plan_of_rows (Some rows) =
+    plan_of_numbers (value_of (codes "line") rows) (value_of (codes "train") rows) (value_of (codes "service") rows)
+    (number_in 10 1000 (value_of (codes "step") rows)) (number_in 0 1000 (value_of (codes "tolerance") rows))
+
 -- the command of a list of words
 abbrev pub command_of : List (List ℕ) → Command
 command_of [] = Usage
-command_of (word ∷ words) = if bytes_eq word (codes "route") then route_of_rows (taken route_app (word ∷ words)) else Usage
+command_of (word ∷ words) =
+    if bytes_eq word (codes "route") then route_of_rows (taken route_app (word ∷ words))
+    else if bytes_eq word (codes "plan") then plan_of_rows (taken plan_app (word ∷ words))
+    else Usage

@@ -6,8 +6,9 @@ ghost use Rattle.advice_run.specs.Outcome.{MayWrite, Names};
 
 use crate::answer::{Answer, usage};
 use crate::command_line::read_route_words;
+use crate::files::route_stage;
 use crate::plan::plan_answer;
-use crate::stage::{Stage, route_stage};
+use crate::stage::Stage;
 use crate::words::Words;
 use edge_io::Shelf;
 use std::alloc::{AllocError, Global};

@@ -2,7 +2,7 @@
 
 ghost use Rattle.std.specs.Prelude.{◌≡◌, ◌≤◌, ◌<◌, ◌^◌, ℕ, Some, true, IfOk, IfSome, MatchOption, option_map};
 ghost use Rattle.clap.specs.Words.{app_of, found_of, is_simple_and_free, rows_of, with_rule};
-ghost use Rattle.advice_run.specs.Words.{Route, Usage, number_in, option, positional, route_app, route_of_rows, taken, value_of};
+ghost use Rattle.advice_run.specs.Words.{Plan, Route, Usage, number_in, option, plan_app, plan_of_rows, positional, route_app, route_of_rows, taken, value_of};
 
 use crate::words::Words;
 use clap::error::ErrorKind;
@@ -47,6 +47,19 @@ fn route_command<'a>(alloc: Global) -> Result<Command<'a>, AllocError>
     Ok(command)
 }
 
+/// The command `plan LINE TRAIN SERVICE [--step N] [--tolerance N]`.
+fn plan_command<'a>(alloc: Global) -> Result<Command<'a>, AllocError>
+    ensures { IfOk result (λ c. app_of c ≡ plan_app) }
+{
+    let command = Command::new(alloc, "plan");
+    let command = with_name(alloc, command, "line")?;
+    let command = with_name(alloc, command, "train")?;
+    let command = with_name(alloc, command, "service")?;
+    let command = with_option(alloc, command, "step", "100")?;
+    let command = with_option(alloc, command, "tolerance", "10")?;
+    Ok(command)
+}
+
 /// The matches of a command, or none where it refuses the words.
 fn matches_of<'a>(
     command: Command<'a>,
@@ -77,7 +90,7 @@ fn value_of<'a>(matches: &ArgMatches<'a>, id: &str) -> &'a str
 /// The number of 1 to 10 decimal digits in a range.
 pub fn number_in(text: &str, low: u32, high: u32) -> Option<u32>
     ensures value { result ≡ number_in low high text.now }
-    ensures within { IfSome result (λ n. n ≤ high) }
+    ensures within { IfSome result (λ n. (low ≤ n) × (n ≤ high)) }
 {
     match read_digits(text.as_bytes(), 10) {
         Some(number) if low as u64 <= number && number <= high as u64 => Some(number as u32),
@@ -122,5 +135,59 @@ fn route_words<'a>(matches: &ArgMatches<'a>) -> Option<RouteWords<'a>>
             tolerance,
         }),
         None => None,
+    }
+}
+
+/// The names and numbers of the command `plan`.
+#[derive(Drop)]
+pub struct PlanWords<'a> {
+    /// The name of the line's file.
+    pub line: &'a str,
+    /// The name of the train's file.
+    pub train: &'a str,
+    /// The name of the service's file.
+    pub service: &'a str,
+    /// The step of the grid, m, 10 to 1,000.
+    pub step: u32,
+    /// The tolerance, per mille, 0 to 1,000.
+    pub tolerance: u32,
+}
+
+/// The names and numbers of the command `plan`, or none where the words are refused.
+pub fn read_plan_words<'a>(
+    alloc: Global,
+    words: &'a Words,
+) -> Result<Option<PlanWords<'a>>, AllocError>
+    ensures { IfOk result (λ r. MatchOption r (plan_of_rows (taken plan_app words.entry.now) ≡ Usage) (λ w. (plan_of_rows (taken plan_app words.entry.now) ≡ Plan w.line.now w.train.now w.service.now w.step w.tolerance) × (10 ≤ w.step) × (w.step ≤ 1000) × (w.tolerance ≤ 1000))) }
+{
+    let command = match plan_command(alloc) {
+        Ok(command) => command,
+        Err(_) => return Err(AllocError),
+    };
+    match matches_of(command, words) {
+        Ok(Some(matches)) => Ok(plan_words(&matches)),
+        Ok(None) => Ok(None),
+        Err(_) => Err(AllocError),
+    }
+}
+
+/// What the matches of the command `plan` say, or none where a number is refused.
+fn plan_words<'a>(matches: &ArgMatches<'a>) -> Option<PlanWords<'a>>
+    ensures { MatchOption result (plan_of_rows (Some (rows_of (found_of matches.now))) ≡ Usage) (λ w. (plan_of_rows (Some (rows_of (found_of matches.now))) ≡ Plan w.line.now w.train.now w.service.now w.step w.tolerance) × (10 ≤ w.step) × (w.step ≤ 1000) × (w.tolerance ≤ 1000)) }
+{
+    let step = number_in(value_of(matches, "step"), 10, 1000);
+    let tolerance = number_in(value_of(matches, "tolerance"), 0, 1000);
+    let line = value_of(matches, "line");
+    let train = value_of(matches, "train");
+    let service = value_of(matches, "service");
+    match (step, tolerance) {
+        (Some(step), Some(tolerance)) => Some(PlanWords {
+            line,
+            train,
+            service,
+            step,
+            tolerance,
+        }),
+        _ => None,
     }
 }

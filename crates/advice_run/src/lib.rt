@@ -4,6 +4,7 @@
 mod answer;
 mod command;
 mod command_line;
+mod files;
 mod plan;
 mod program;
 mod stage;
