@@ -1,10 +1,10 @@
 -- What comes of the files of a run, one after the other.
-use Rattle.std.proofs.Common.{ℕ, ◌≡◌, ◌≤◌, ◌<◌, ◌∙◌, List, Option, Some, None, Bool, true, false, length, take, refl, sym, arith, inl, inr, ◌⊎◌}
+use Rattle.std.proofs.Common.{ℕ, ◌≡◌, ◌≤◌, ◌<◌, ◌∙◌, List, Option, Some, None, Bool, true, false, length, take, refl, sym, subst, codes, arith, inl, inr, ◌⊎◌}
 use Rattle.std.specs.Prelude.{Result, Ok, Err, MatchBool, MatchResult, Vec, nat_lt}
 use Rattle.std.specs.declared.alloc.Global.{Global}
 use Rattle.std.proofs.lemmas.Bool.{le-ltb}
 use Rattle.std.proofs.lemmas.List.{take_all, length-take}
-use Rattle.rail_specs.specs.Faults.{Told, Fetches}
+use Rattle.rail_specs.specs.Faults.{Rose, Told, Fetches}
 use Rattle.advice_run.specs.Outcome.{IsRefusal, MayHold, MayRead, Says, most_bytes}
 use Rattle.advice_run.specs.Stage.{IsMeasured, IsFetched}
 use Rattle.advice_run.specs.declared.stage.Stage.{Stage}
@@ -55,3 +55,24 @@ ends_there role name told before now read words next status text (inr h) =
 pub goes_on : {A F : Type 0} (role name : List ℕ) (told : List ℕ → Told) (before now : List ℕ → ℕ) (read : List ℕ → Result A F) (words : F → List ℕ) (next : A → ℕ → List ℕ → Type 0)
     (said : A) (status : ℕ) (text : List ℕ) → Says name told read said → next said status text → MayRead role name told before now read words next status text
 goes_on role name told before now read words next said status text s h = inr (s.file, (s.held, rw (le-ltb most_bytes (length s.file) s.short, s.reads) h))
+
+mapped_result : {A F : Type 0} (r : Result A F) (P P' : A → Type 0) (Q : F → Type 0) → ((a : A) → P a → P' a) → MatchResult r P Q → MatchResult r P' Q
+mapped_result (Ok a) P P' Q f h = f a h
+mapped_result (Err e) P P' Q f h = h
+
+mapped : {A F : Type 0} (long : Bool) (R : Type 0) (r : Result A F) (P P' : A → Type 0) (Q : F → Type 0) → ((a : A) → P a → P' a) → MatchBool long R (MatchResult r P Q) → MatchBool long R (MatchResult r P' Q)
+mapped true R r P P' Q f h = h
+mapped false R r P P' Q f h = mapped_result r P P' Q f h
+
+rose_sooner : (a b now : ℕ) → a ≤ b → Rose b now → Rose a now
+rose_sooner a b now h r = omega arith
+
+-- an answer over a shelf that tells the same as another did before, and had as many faults or fewer then
+pub carried : {A F : Type 0} (role name : List ℕ) (told told' : List ℕ → Told) (before before' now : List ℕ → ℕ) (read : List ℕ → Result A F) (words : F → List ℕ)
+    (next next' : A → ℕ → List ℕ → Type 0) (status : ℕ) (text : List ℕ) → told' name ≡ told name → before name ≤ before' name → ((a : A) → next' a status text → next a status text)
+    → MayRead role name told' before' now read words next' status text → MayRead role name told before now read words next status text
+carried role name told told' before before' now read words next next' status text same fewer go (inl fault) =
+    inl record { cause = rose_sooner (before name) (before' name) (now name) fewer fault.cause; ends = fault.ends; says = fault.says }
+carried role name told told' before before' now read words next next' status text same fewer go (inr h) =
+    inr (h.0, (subst (λ (t : Told). MayHold t h.0) same h.1.0,
+      mapped (nat_lt most_bytes (length h.0)) (IsRefusal role (codes "too-long") status text) (read h.0) (λ a. next' a status text) (λ a. next a status text) (λ f. IsRefusal role (words f) status text) go h.1.1))
