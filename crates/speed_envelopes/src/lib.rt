@@ -14,3 +14,6 @@ pub use exact::ranges;
 pub use extent::Ranges;
 pub use greatest::{greatest_drive, greatest_from, greatest_under};
 pub use rail_specs::Narrow;
+
+#[cfg(test)]
+mod tests;
