@@ -74,5 +74,10 @@ pub carried : {A F : Type 0} (role name : List ℕ) (told told' : List ℕ → T
 carried role name told told' before before' now read words next next' status text same fewer go (inl fault) =
     inl record { cause = rose_sooner (before name) (before' name) (now name) fewer fault.cause; ends = fault.ends; says = fault.says }
 carried role name told told' before before' now read words next next' status text same fewer go (inr h) =
-    inr (h.0, (subst (λ (t : Told). MayHold t h.0) same h.1.0,
-      mapped (nat_lt most_bytes (length h.0)) (IsRefusal role (codes "too-long") status text) (read h.0) (λ a. next' a status text) (λ a. next a status text) (λ f. IsRefusal role (words f) status text) go h.1.1))
+    inr (
+      h.0,
+      (
+        subst (λ (t : Told). MayHold t h.0) same h.1.0,
+        mapped (nat_lt most_bytes (length h.0)) (IsRefusal role (codes "too-long") status text) (read h.0) (λ a. next' a status text) (λ a. next a status text) (λ f. IsRefusal role (words f) status text) go h.1.1,
+      ),
+    )

@@ -6,6 +6,10 @@ use Rattle.line_file.specs.declared.line.LineFault.{LineFault}
 use Rattle.line_file.specs.declared.line.LineFault.TheVariants as line
 use Rattle.line_file.specs.declared.service.ServiceFault.{ServiceFault}
 use Rattle.line_file.specs.declared.service.ServiceFault.TheVariants as service
+use Rattle.train_file.specs.declared.fault.Key.{Key}
+use Rattle.train_file.specs.declared.fault.Key.TheVariants as key
+use Rattle.train_file.specs.declared.fault.TrainFault.{TrainFault}
+use Rattle.train_file.specs.declared.fault.TrainFault.TheVariants as train
 use Rattle.rail_specs.specs.Faults.{Rose, Told, Appends}
 use Rattle.rail_specs.specs.Report.{line as text_line, spaced}
 use Rattle.rail_specs.specs.Route.{rules_of_text}
@@ -60,6 +64,29 @@ service_fault_words service.TooFew = codes "too-few"
 service_fault_words service.NoFinalLatest = codes "no-final-latest"
 service_fault_words service.TooManyLatest = codes "too-many-latest"
 service_fault_words service.NoMemory = []
+
+-- the keys of a train file, as they are spelled there
+abbrev pub key_name : Key → List ℕ
+key_name key.Version = codes "version"
+key_name key.Mass = codes "mass"
+key_name key.Inertia = codes "inertia"
+key_name key.A = codes "a"
+key_name key.B = codes "b"
+key_name key.C = codes "c"
+key_name key.Traction = codes "traction"
+key_name key.Brake = codes "brake"
+
+-- the words of a fault of a train file
+abbrev pub train_fault_words : TrainFault → List ℕ
+train_fault_words train.Text = codes "text"
+train_fault_words (train.Missing k) = codes "missing" ++ 32 ∷ key_name k
+train_fault_words (train.WrongKind k) = codes "wrong-kind" ++ 32 ∷ key_name k
+train_fault_words (train.OutOfRange k) = codes "out-of-range" ++ 32 ∷ key_name k
+train_fault_words (train.TableStart k) = codes "table-start" ++ 32 ∷ key_name k
+train_fault_words (train.TableOrder k n) = codes "table-order" ++ 32 ∷ key_name k ++ spaced (pos n)
+train_fault_words (train.TableRises k n) = codes "table-rises" ++ 32 ∷ key_name k ++ spaced (pos n)
+train_fault_words train.TopsDiffer = codes "tops-differ"
+train_fault_words train.NoMemory = []
 
 -- ---- one file
 

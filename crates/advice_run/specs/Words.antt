@@ -5,6 +5,8 @@ use Rattle.std.specs.Str.{bytes_eq}
 use Rattle.rail_specs.specs.Numbers.{digits_number}
 use Rattle.clap.specs.Words.{App, Row, Rule, Text, fault_of, first_of, matches_of, new_app, new_rule, with_rule}
 use Rattle.clap.specs.Walk.{is_empty}
+use Rattle.advice_run.specs.declared.command.First.{First}
+use Rattle.advice_run.specs.declared.command.First.TheVariants.{FirstIsRoute, FirstIsPlan, FirstIsOther}
 use Rattle.clap.specs.declared.builder.action.ArgAction.TheVariants.{Set}
 
 -- a command with its names and numbers, or a word about usage
@@ -83,3 +85,9 @@ command_of (word ∷ words) =
     if bytes_eq word (codes "route") then route_of_rows (taken route_app (word ∷ words))
     else if bytes_eq word (codes "plan") then plan_of_rows (taken plan_app (word ∷ words))
     else Usage
+
+-- the command of words whose first word is this
+abbrev pub command_by : First → List (List ℕ) → Command
+command_by FirstIsRoute words = route_of_rows (taken route_app words)
+command_by FirstIsPlan words = plan_of_rows (taken plan_app words)
+command_by FirstIsOther words = Usage

@@ -1,7 +1,7 @@
 //! What the words ask for, and the answer to that.
 
 ghost use Rattle.std.specs.Prelude.{◌≡◌, ◌≢◌, ◌≤◌, ℕ, List, IfOk};
-ghost use Rattle.advice_run.specs.Words.{command_of, Route};
+ghost use Rattle.advice_run.specs.Words.{command_by, command_of, Route};
 ghost use Rattle.advice_run.specs.Outcome.{MayWrite, Names};
 
 use crate::answer::{Answer, usage};
@@ -15,6 +15,31 @@ use std::alloc::{AllocError, Global};
 use std::sync::ledger::Ledger;
 use step_energy::Steps;
 
+/// The first word.
+#[derive(Clone, Copy)]
+pub enum First {
+    FirstIsRoute,
+    FirstIsPlan,
+    FirstIsOther,
+}
+
+/// Which command the first word names.
+fn first_of(words: &Words) -> First
+    ensures { command_of words.now ≡ command_by result words.now }
+{
+    if words.count() == 0 {
+        return First::FirstIsOther;
+    }
+    let first = words.get(0);
+    if first == "route" {
+        First::FirstIsRoute
+    } else if first == "plan" {
+        First::FirstIsPlan
+    } else {
+        First::FirstIsOther
+    }
+}
+
 /// The answer to the words, over what the shelf holds.
 pub fn answer<S: Shelf, L: Ledger>(
     alloc: Global,
@@ -26,9 +51,24 @@ pub fn answer<S: Shelf, L: Ledger>(
     ensures kept { (n : List ℕ) → S.contents shelf.new n ≡ S.contents shelf.old n }
     ensures others { (n : List ℕ) → (Names (command_of words.now) n → ⊥) → S.faults shelf.new n ≡ S.faults shelf.old n }
 {
-    if words.count() == 0 || words.get(0) != "route" {
-        return usage(alloc);
+    match first_of(words) {
+        First::FirstIsRoute => answer_route_words(alloc, words, shelf, steps),
+        First::FirstIsPlan => usage(alloc),
+        First::FirstIsOther => usage(alloc),
     }
+}
+
+/// The answer to words that begin with `route`.
+fn answer_route_words<S: Shelf, L: Ledger>(
+    alloc: Global,
+    words: &Words,
+    shelf: &mut S,
+    steps: &mut Steps<L>,
+) -> Result<Answer, AllocError>
+    ensures may { IfOk result (λ a. MayWrite (command_by First.FirstIsRoute words.now) (S.contents shelf.old) (S.faults shelf.old) (S.faults shelf.new) a.status a.text.items) }
+    ensures kept { (n : List ℕ) → S.contents shelf.new n ≡ S.contents shelf.old n }
+    ensures others { (n : List ℕ) → (Names (command_by First.FirstIsRoute words.now) n → ⊥) → S.faults shelf.new n ≡ S.faults shelf.old n }
+{
     match read_route_words(alloc, words)? {
         Some(asked) => answer_route(alloc, asked.file, asked.tolerance, shelf, steps),
         None => usage(alloc),
