@@ -1,5 +1,5 @@
 -- What a run of the program leaves: its status and what it writes, and when a fault may come.
-use Rattle.std.specs.Prelude.{ℕ, ◌≡◌, ◌≤◌, ◌++◌, ◌∷◌, List, [], ⊤, Option, Some, None, Result, Ok, pos, codes, length, take, MatchBool, MatchResult, ◌⊎◌, nat_lt}
+use Rattle.std.specs.Prelude.{ℕ, ◌≡◌, ◌≢◌, ◌≤◌, ◌++◌, ◌∷◌, List, [], ⊤, Option, Some, None, Result, Ok, pos, codes, length, take, MatchBool, MatchResult, ◌⊎◌, nat_lt}
 use Rattle.rail_specs.specs.declared.RouteFault.{RouteFault}
 use Rattle.rail_specs.specs.declared.RouteFault.TheVariants.{Form, Range, TooManySteps, NoMemory}
 use Rattle.line_file.specs.declared.line.LineFault.{LineFault}
@@ -10,6 +10,17 @@ use Rattle.train_file.specs.declared.fault.Key.{Key}
 use Rattle.train_file.specs.declared.fault.Key.TheVariants as key
 use Rattle.train_file.specs.declared.fault.TrainFault.{TrainFault}
 use Rattle.train_file.specs.declared.fault.TrainFault.TheVariants as train
+use Rattle.line_file.specs.declared.line.Line.{Line}
+use Rattle.line_file.specs.declared.service.Service.{Service}
+use Rattle.line_file.specs.LineText.{line_of}
+use Rattle.line_file.specs.ServiceText.{service_of}
+use Rattle.train_file.specs.declared.train.Train.{Train}
+use Rattle.train_file.specs.TrainText.{train_of}
+use Rattle.drive_rules.specs.declared.setup.Setup.{Setup}
+use Rattle.drive_rules.specs.declared.joined.fault.RulesFault.{RulesFault}
+use Rattle.drive_rules.specs.declared.joined.fault.RulesFault.TheVariants as rules
+use Rattle.drive_rules.specs.Joined.{IsJoined, Refuses, first_place}
+use Rattle.rail_specs.specs.Rules.{Rules}
 use Rattle.rail_specs.specs.Faults.{Rose, Told, Appends}
 use Rattle.rail_specs.specs.Report.{line as text_line, spaced}
 use Rattle.rail_specs.specs.Route.{rules_of_text}
@@ -120,6 +131,44 @@ abbrev pub MayRead : {A F : Type 0} → List ℕ → List ℕ → (List ℕ → 
 MayRead role name told before now read words next status text =
     IsReadFault role name before now status text ⊎ ((file : List ℕ) × (MayHold (told name) file × IsFileAnswer role read words next file status text))
 
+-- ---- the three files of a line, a train and a service
+
+-- the words of a refusal of the joined rules
+abbrev pub rules_fault_words : RulesFault → List ℕ
+rules_fault_words (rules.Outside n) = codes "outside" ++ spaced (pos n)
+rules_fault_words rules.TooManySteps = codes "too-many-steps"
+rules_fault_words (rules.StopsTooClose n) = codes "stops-too-close" ++ spaced (pos n)
+rules_fault_words (rules.DragTooGreat i) = codes "drag-too-great" ++ spaced (pos i)
+rules_fault_words rules.NoMemory = []
+
+-- at rest at the first call, with the clock at 0 and no stretch
+abbrev pub fresh_setup : Service → ℕ → Setup
+fresh_setup service step = record { step = step; place = first_place service.calls; speed = 0; clock = 0; stretches = [] }
+
+-- the joined rules are refused, and the answer is their refusal
+pub record IsRulesRefusal (line : Line) (train : Train) (service : Service) (setup : Setup) (status : ℕ) (text : List ℕ) : Type 0 where
+  pub fault : RulesFault
+  pub sound : fault ≢ rules.NoMemory
+  pub refused : Refuses line train service setup fault
+  pub says : IsRefusal (codes "rules") (rules_fault_words fault) status text
+
+-- the answer to a line, a train and a service, with a grid of this step, at this tolerance: that to their joined rules, or
+-- the refusal of these
+abbrev pub IsJoinedAnswer : Line → Train → ℕ → ℕ → Service → ℕ → List ℕ → Type 0
+IsJoinedAnswer line train step tolerance service status text =
+    ((r : Rules) × (IsJoined line train service (fresh_setup service step) r × IsPlanAnswer r tolerance status text))
+    ⊎ IsRulesRefusal line train service (fresh_setup service step) status text
+
+-- the answer once the line and the train are read: over the service's file
+abbrev pub AfterTrain : List ℕ → ℕ → ℕ → (List ℕ → Told) → (List ℕ → ℕ) → (List ℕ → ℕ) → Line → Train → ℕ → List ℕ → Type 0
+AfterTrain service step tolerance told before now line train status text =
+    MayRead (codes "service") service told before now service_of service_fault_words (λ said. IsJoinedAnswer line train step tolerance said) status text
+
+-- the answer once the line is read: over the train's file
+abbrev pub AfterLine : List ℕ → List ℕ → ℕ → ℕ → (List ℕ → Told) → (List ℕ → ℕ) → (List ℕ → ℕ) → Line → ℕ → List ℕ → Type 0
+AfterLine train service step tolerance told before now line status text =
+    MayRead (codes "train") train told before now train_of train_fault_words (λ said. AfterTrain service step tolerance told before now line said) status text
+
 -- ---- a run
 
 -- the run of a command may write this text and end with this status
@@ -127,7 +176,8 @@ abbrev pub MayWrite : Command → (List ℕ → Told) → (List ℕ → ℕ) →
 MayWrite Usage told before now status text = (status ≡ 2) × (text ≡ usage_text)
 MayWrite (Route name tolerance) told before now status text =
     MayRead (codes "route") name told before now rules_of_text route_fault_words (λ rules. IsPlanAnswer rules tolerance) status text
-MayWrite (Plan line train service step tolerance) told before now status text = ⊥
+MayWrite (Plan line train service step tolerance) told before now status text =
+    MayRead (codes "line") line told before now line_of line_fault_words (λ said. AfterLine train service step tolerance told before now said) status text
 
 -- a whole text that the run may write was written, with its own status
 pub record Wrote (command : Command) (told : List ℕ → Told) (before now : List ℕ → ℕ) (was is : Option (List ℕ)) (status : ℕ) : Type 0 where

@@ -5,8 +5,9 @@ ghost use Rattle.advice_run.specs.Words.{command_by, command_of, Route};
 ghost use Rattle.advice_run.specs.Outcome.{MayWrite, Names};
 
 use crate::answer::{Answer, usage};
-use crate::command_line::read_route_words;
+use crate::command_line::{read_plan_words, read_route_words};
 use crate::files::route_stage;
+use crate::joined::answer_plan;
 use crate::plan::plan_answer;
 use crate::stage::Stage;
 use crate::words::Words;
@@ -53,7 +54,7 @@ pub fn answer<S: Shelf, L: Ledger>(
 {
     match first_of(words) {
         First::FirstIsRoute => answer_route_words(alloc, words, shelf, steps),
-        First::FirstIsPlan => usage(alloc),
+        First::FirstIsPlan => answer_plan_words(alloc, words, shelf, steps),
         First::FirstIsOther => usage(alloc),
     }
 }
@@ -71,6 +72,23 @@ fn answer_route_words<S: Shelf, L: Ledger>(
 {
     match read_route_words(alloc, words)? {
         Some(asked) => answer_route(alloc, asked.file, asked.tolerance, shelf, steps),
+        None => usage(alloc),
+    }
+}
+
+/// The answer to words that begin with `plan`.
+fn answer_plan_words<S: Shelf, L: Ledger>(
+    alloc: Global,
+    words: &Words,
+    shelf: &mut S,
+    steps: &mut Steps<L>,
+) -> Result<Answer, AllocError>
+    ensures may { IfOk result (λ a. MayWrite (command_by First.FirstIsPlan words.now) (S.contents shelf.old) (S.faults shelf.old) (S.faults shelf.new) a.status a.text.items) }
+    ensures kept { (n : List ℕ) → S.contents shelf.new n ≡ S.contents shelf.old n }
+    ensures others { (n : List ℕ) → (Names (command_by First.FirstIsPlan words.now) n → ⊥) → S.faults shelf.new n ≡ S.faults shelf.old n }
+{
+    match read_plan_words(alloc, words)? {
+        Some(asked) => answer_plan(alloc, &asked, shelf, steps),
         None => usage(alloc),
     }
 }

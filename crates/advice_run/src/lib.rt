@@ -5,6 +5,7 @@ mod answer;
 mod command;
 mod command_line;
 mod files;
+mod joined;
 mod plan;
 mod program;
 mod stage;
