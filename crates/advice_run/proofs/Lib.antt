@@ -1,3 +1,4 @@
 pub mod PlanLemmas
 pub mod WordsLemmas
 pub mod StageLemmas
+pub mod JoinedLemmas
