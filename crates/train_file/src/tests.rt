@@ -41,6 +41,7 @@ fn refusal(alloc: Global, text: &[u8]) -> Option<TrainFault> {
 fn a_train_is_read(rt: HostRuntime) -> Result<(), Fail> {
     let alloc = rt.alloc();
     let text = changed(alloc, 0, b"")?;
+    let train = read_train(alloc, &text)?;
     let Train {
         mass,
         inertia,
@@ -49,7 +50,7 @@ fn a_train_is_read(rt: HostRuntime) -> Result<(), Fail> {
         c,
         traction,
         brake,
-    } = read_train(alloc, &text)?;
+    } = train.copy(alloc)?;
     assert_eq!(rt; mass, 1000);
     assert_eq!(rt; inertia, 1100);
     assert_eq!(rt; a, 1000);
