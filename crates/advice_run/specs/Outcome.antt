@@ -33,7 +33,8 @@ most_bytes = 1048576
 
 -- the text about usage: a line for each command
 abbrev pub usage_text : List ℕ
-usage_text = text_line (codes "usage: advice route FILE [--tolerance N]")
+usage_text =
+    text_line (codes "usage: advice route FILE [--tolerance N]") ++ text_line (codes "       advice plan LINE TRAIN SERVICE [--step N] [--tolerance N]")
 
 -- a file or the rules are refused: whose fault it is, and the fault's words
 abbrev pub refused_text : List ℕ → List ℕ → List ℕ

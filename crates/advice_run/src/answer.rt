@@ -7,6 +7,9 @@ ghost use Rattle.advice_run.specs.Outcome.{IsRefusal, read_fault_text as text_of
 use rail_base::put_number;
 use std::alloc::{AllocError, Global};
 
+/// A line for each command.
+const USAGE: &[u8] = b"usage: advice route FILE [--tolerance N]\n       advice plan LINE TRAIN SERVICE [--step N] [--tolerance N]\n";
+
 /// A text, and the status that the program ends with once the text is written.
 #[derive(Drop)]
 pub struct Answer {
@@ -19,7 +22,7 @@ pub struct Answer {
 pub fn usage(alloc: Global) -> Result<Answer, AllocError>
     ensures { IfOk result (λ a. (a.status ≡ 2) × (a.text.items ≡ text_of_usage)) }
 {
-    let text = Vec::from_slice(alloc, b"usage: advice route FILE [--tolerance N]\n")?;
+    let text = Vec::from_slice(alloc, USAGE)?;
     Ok(Answer { status: 2, text })
 }
 

@@ -2,6 +2,8 @@
 #![tactic(auto)]
 
 #[cfg(test)]
+mod plan_tests;
+#[cfg(test)]
 mod route_tests;
 #[cfg(test)]
 mod runs;
