@@ -1,0 +1,50 @@
+-- What the parts of the joined rules are, as they are made one after another.
+use Rattle.std.specs.Prelude.{ℕ, ◌+◌, ◌-◌, ◌<◌, ◌≤◌, ◌≡◌, ◌⊎◌, ℤ, pos, List, length, slice_index, slice_index_or}
+use Rattle.line_file.specs.declared.sections.Section.{Section}
+use Rattle.line_file.specs.declared.calls.Call.{Call}
+use Rattle.line_file.specs.LineText.{first_from, last_to}
+use Rattle.line_file.specs.Shape.{section_at, call_at}
+use Rattle.drive_rules.specs.declared.setup.Stretch.{Stretch}
+use Rattle.drive_rules.specs.Joined.{stretch_at, Meets, LiesIn, IsCallAt}
+
+-- each place lies above the one before it
+abbrev pub Rising : List ℕ → Type 0
+Rising places = (k : ℕ) → k + 1 < length places → slice_index places k < slice_index places (k + 1)
+
+-- each section begins where the one before it ends
+abbrev pub Follow : List Section → Type 0
+Follow sections = (k : ℕ) → k + 1 < length sections → (section_at sections (k + 1)).from ≡ (section_at sections k).to
+
+-- the places rise within the sections, and no step between two of them goes over the end of a section
+pub record AreCut (sections : List Section) (places : List ℕ) : Type 0 where
+  pub follow : Follow sections
+  pub some : 0 < length sections
+  pub rising : Rising places
+  pub begun : first_from sections ≤ slice_index places 0
+  pub ended : (i : ℕ) → i + 1 < length places → slice_index places i < last_to sections
+  pub whole : (k i : ℕ) → k < length sections → i + 1 < length places → slice_index places i < (section_at sections k).to → slice_index places (i + 1) ≤ (section_at sections k).to
+
+-- for each step the value of the section in which it lies
+pub record AreValues (sections : List Section) (places : List ℕ) (values : List ℤ) : Type 0 where
+  pub count : length values + 1 ≡ length places
+  pub each : (i : ℕ) → i < length values → LiesIn sections (slice_index places i) (slice_index places (i + 1)) (slice_index_or values i (pos 0))
+
+-- v is the least of a limit and of the limits of the stretches that meet the step from s to e
+pub record IsLowered (stretches : List Stretch) (s e limit v : ℕ) : Type 0 where
+  pub below : v ≤ limit
+  pub each : (k : ℕ) → k < length stretches → Meets (stretch_at stretches k).from (stretch_at stretches k).to s e → v ≤ (stretch_at stretches k).limit
+  pub reached : (v ≡ limit) ⊎ ((k : ℕ) × (k < length stretches) × Meets (stretch_at stretches k).from (stretch_at stretches k).to s e × (v ≡ (stretch_at stretches k).limit))
+
+-- for each step the limit of its section, lowered by the stretches that meet the step
+pub record AreLowered (stretches : List Stretch) (places : List ℕ) (values : List ℤ) (limits : List ℕ) : Type 0 where
+  pub count : length limits ≡ length values
+  pub each : (i : ℕ) → i < length limits → (b : ℕ) × (pos b ≡ slice_index_or values i (pos 0)) × IsLowered stretches (slice_index places i) (slice_index places (i + 1)) b (slice_index limits i)
+
+-- calls lie at rising places
+abbrev pub CallsRise : List Call → Type 0
+CallsRise calls = (k : ℕ) → k + 1 < length calls → (call_at calls k).place < (call_at calls (k + 1)).place
+
+-- for each point which call stands there
+pub record AreCallsAt (calls : List Call) (places visits : List ℕ) : Type 0 where
+  pub count : length visits ≡ length places
+  pub each : (k : ℕ) → k < length visits → IsCallAt calls places k (slice_index visits k)
