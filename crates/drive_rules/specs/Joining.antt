@@ -1,5 +1,6 @@
 -- What the parts of the joined rules are, as they are made one after another.
-use Rattle.std.specs.Prelude.{ℕ, ◌+◌, ◌-◌, ◌<◌, ◌≤◌, ◌≡◌, ◌⊎◌, ℤ, pos, List, length, slice_index, slice_index_or}
+use Rattle.std.specs.Prelude.{ℕ, ◌+◌, ◌-◌, ◌<◌, ◌≤◌, ◌≡◌, ◌⊎◌, ℤ, pos, Bool, true, false, List, length, slice_index, slice_index_or}
+use Rattle.std.specs.Int.RustNames.{unsigned_abs}
 use Rattle.line_file.specs.declared.sections.Section.{Section}
 use Rattle.line_file.specs.declared.calls.Call.{Call}
 use Rattle.line_file.specs.LineText.{first_from, last_to}
@@ -19,6 +20,7 @@ Follow sections = (k : ℕ) → k + 1 < length sections → (section_at sections
 pub record AreCut (sections : List Section) (places : List ℕ) : Type 0 where
   pub follow : Follow sections
   pub some : 0 < length sections
+  pub small : (k : ℕ) → k < length sections → unsigned_abs (section_at sections k).value ≤ 12000
   pub rising : Rising places
   pub begun : first_from sections ≤ slice_index places 0
   pub ended : (i : ℕ) → i + 1 < length places → slice_index places i < last_to sections
@@ -48,3 +50,11 @@ CallsRise calls = (k : ℕ) → k + 1 < length calls → (call_at calls k).place
 pub record AreCallsAt (calls : List Call) (places visits : List ℕ) : Type 0 where
   pub count : length visits ≡ length places
   pub each : (k : ℕ) → k < length visits → IsCallAt calls places k (slice_index visits k)
+
+-- point k + 1 is a stop, and so is point k, or it is the first and the train stands there
+abbrev pub IsCloseStop : List Bool → ℕ → ℕ → Type 0
+IsCloseStop stops start k = (slice_index_or stops (k + 1) false ≡ true) × ((slice_index_or stops k false ≡ true) ⊎ ((k ≡ 0) × (start ≡ 0)))
+
+-- none of the first n points is followed by a stop too close
+abbrev pub NoneClose : List Bool → ℕ → ℕ → Type 0
+NoneClose stops start n = (k : ℕ) → k < n → IsCloseStop stops start k → ⊥

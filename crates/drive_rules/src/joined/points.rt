@@ -1,9 +1,9 @@
 //! What the calls of a service say of each point.
 
-ghost use Rattle.std.specs.Prelude.{◌≡◌, ◌+◌, ◌<◌, ◌≤◌, ℕ, false, length, slice_index, slice_index_or, IfOk};
+ghost use Rattle.std.specs.Prelude.{◌≡◌, ◌≢◌, None, IfSome, ◌+◌, ◌-◌, ◌<◌, ◌≤◌, ℕ, false, length, slice_index, slice_index_or, IfOk};
 ghost use Rattle.line_file.specs.Shape.{call_at, AreCalls};
 ghost use Rattle.drive_rules.specs.Joined.{is_stop_call, dwell_of};
-ghost use Rattle.drive_rules.specs.Joining.{Rising, CallsRise, AreCallsAt};
+ghost use Rattle.drive_rules.specs.Joining.{Rising, CallsRise, AreCallsAt, IsCloseStop, NoneClose};
 
 use line_file::Call;
 use std::alloc::{AllocError, Global};
@@ -23,6 +23,23 @@ fn call_from(calls: &[Call], first: usize, place: u32) -> usize
     k
 }
 
+/// The call that stands at the place, where it is this one or none, or the number of calls.
+fn call_at_place(calls: &[Call], next: usize, place: u32) -> usize
+    requires calls { CallsRise calls.now }
+    requires within { next ≤ length calls.now }
+    requires before { (j : ℕ) → j < next → (call_at calls.now j).place < place }
+    requires from { next < length calls.now → place ≤ (call_at calls.now next).place }
+    ensures within { result ≤ length calls.now }
+    ensures call { result < length calls.now → (call_at calls.now result).place ≡ place }
+    ensures none { length calls.now ≤ result → (i : ℕ) → i < length calls.now → (call_at calls.now i).place ≢ place }
+{
+    if next < calls.len() && calls[next].place == place {
+        next
+    } else {
+        calls.len()
+    }
+}
+
 /// For each point, which call stands there: its index, or the number of calls where none does, and at the first point.
 pub(crate) fn calls_of_points(
     alloc: Global,
@@ -39,8 +56,7 @@ pub(crate) fn calls_of_points(
     let mut next = 0;
     for k in 1..places.len() {
         next = call_from(calls, next, places[k]);
-        let stands = next < calls.len() && calls[next].place == places[k];
-        visits.push(if stands { next } else { calls.len() })?;
+        visits.push(call_at_place(calls, next, places[k]))?;
     }
     Ok(visits)
 }
@@ -104,4 +120,21 @@ pub(crate) fn dwells_of_points(
         dwells.push(dwell_of(calls, *j))?;
     }
     Ok(dwells)
+}
+
+/// The first point but one before a stop too close: the next point is a stop, and this one is a stop too, or it is the first and the
+/// train stands there.
+pub(crate) fn close_stop(stops: &[bool], start: u16) -> Option<usize>
+    requires { 1 ≤ length stops.now }
+    ensures none { result ≡ None → NoneClose stops.now start (length stops.now - 1) }
+    ensures found { IfSome result (λ k. k + 1 < length stops.now) }
+    ensures close { IfSome result (IsCloseStop stops.now start) }
+    ensures first { IfSome result (NoneClose stops.now start) }
+{
+    for k in 0..stops.len() - 1 {
+        if stops[k + 1] && (stops[k] || (k == 0 && start == 0)) {
+            return Some(k);
+        }
+    }
+    None
 }

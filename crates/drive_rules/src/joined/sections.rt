@@ -58,6 +58,15 @@ fn lowered(limit: u16, stretches: &[Stretch], start: u32, end: u32) -> u16
     least
 }
 
+/// A limit of a line as a speed.
+fn speed_of(limit: i32) -> u16
+    requires low { pos 1 ≤ℤ limit }
+    requires high { limit ≤ℤ pos 12000 }
+    ensures { pos result ≡ limit }
+{
+    limit as u16
+}
+
 /// For each step between two places, the limit of its section, lowered by the stretches that meet the step.
 pub(crate) fn limits_of_steps(
     alloc: Global,
@@ -72,7 +81,7 @@ pub(crate) fn limits_of_steps(
 {
     let mut limits = Vec::new(alloc);
     for i in 0..values.len() {
-        let limit = lowered(values[i] as u16, stretches, places[i], places[i + 1]);
+        let limit = lowered(speed_of(values[i]), stretches, places[i], places[i + 1]);
         limits.push(limit)?;
     }
     Ok(limits)
