@@ -1,5 +1,8 @@
 //! The rules that a line, a train, a service and a setup give together.
 
+pub mod fault;
 pub(crate) mod marks;
 pub(crate) mod points;
+pub(crate) mod rows;
 pub(crate) mod sections;
+pub(crate) mod timings;
