@@ -14,6 +14,9 @@ use Rattle.line_file.specs.Shape.{section_at, call_at}
 use Rattle.train_file.specs.declared.train.Train.{Train}
 use Rattle.drive_rules.specs.declared.setup.Stretch.{Stretch}
 use Rattle.drive_rules.specs.declared.setup.Setup.{Setup}
+use Rattle.distance_grid.specs.Answer.{IsShortGrid, IsLongGrid}
+use Rattle.drive_rules.specs.declared.joined.fault.RulesFault.{RulesFault}
+use Rattle.drive_rules.specs.declared.joined.fault.RulesFault.TheVariants as fault
 use Rattle.drive_rules.specs.Timings.{Rises}
 
 -- what stands past the last stretch
@@ -149,27 +152,62 @@ pub record IsJoined (line : Line) (train : Train) (service : Service) (setup : S
 
 -- ---- refusals
 
--- n is the first, counted from 1, of so many for which this holds
-pub record IsFirst (P : ℕ → Type 0) (count n : ℕ) : Type 0 where
-  pub from : 1 ≤ n
-  pub to : n ≤ count
-  pub holds : P (n - 1)
-  pub before : (j : ℕ) → j + 1 < n → P j → ⊥
+-- i is the first, counted from 0, of so many for which this holds
+pub record IsFirst (P : ℕ → Type 0) (count i : ℕ) : Type 0 where
+  pub within : i < count
+  pub holds : P i
+  pub before : (j : ℕ) → j < i → P j → ⊥
 
 -- it holds for none of so many
 abbrev pub ForNone : (ℕ → Type 0) → ℕ → Type 0
 ForNone P count = (j : ℕ) → j < count → P j → ⊥
 
 -- call j isn't on the line
-abbrev pub IsOutside : Line → Service → ℕ → Type 0
-IsOutside line service j = ((call_at service.calls j).place < first_from line.limits) ⊎ (last_to line.limits < (call_at service.calls j).place)
+abbrev pub IsOutside : Line → List Call → ℕ → Type 0
+IsOutside line calls j = ((call_at calls j).place < first_from line.limits) ⊎ (last_to line.limits < (call_at calls j).place)
+
+-- a call that is a stop stands at this place
+abbrev pub HasStop : List Call → ℕ → Type 0
+HasStop calls p = (i : ℕ) × (i < length calls) × ((call_at calls i).place ≡ p) × (is_stop_call calls i ≡ true)
 
 -- call j after the start is a stop at the grid point next after another stop's, or next after the start where the train stands there
-abbrev pub IsTooClose : Service → Setup → List ℕ → ℕ → Type 0
-IsTooClose service setup places j =
-    (is_stop_call service.calls j ≡ true) × (k : ℕ) × (k + 1 < length places) × (slice_index places (k + 1) ≡ (call_at service.calls j).place)
-    × (((k ≡ 0) × (setup.speed ≡ 0)) ⊎ ((1 ≤ k) × (i : ℕ) × (i < length service.calls) × ((call_at service.calls i).place ≡ slice_index places k) × (is_stop_call service.calls i ≡ true)))
+abbrev pub IsTooClose : List Call → ℕ → List ℕ → ℕ → Type 0
+IsTooClose calls speed places j =
+    (is_stop_call calls j ≡ true) × (k : ℕ) × (k + 1 < length places) × (slice_index places (k + 1) ≡ (call_at calls j).place)
+    × (((k ≡ 0) × (speed ≡ 0)) ⊎ ((1 ≤ k) × HasStop calls (slice_index places k)))
 
 -- the drag over step i is too great
 abbrev pub IsTooGreat : Train → List ℕ → ℕ → Type 0
 IsTooGreat train places i = 10000 * train.inertia ≤ train.c * (slice_index places (i + 1) - slice_index places i)
+
+-- the calls lie on the line, these are the places of the grid, no more than 4,001, and no stop is too close to another
+pub record IsAccepted (line : Line) (service : Service) (setup : Setup) (places : List ℕ) : Type 0 where
+  pub on_line : ForNone (IsOutside line service.calls) (length service.calls)
+  pub grid : IsShortGrid (marks_of line service) setup.step setup.place (last_place service.calls) places
+  pub apart : ForNone (IsTooClose service.calls setup.speed places) (length service.calls)
+
+-- the first refusal of the calls and the places; memory may run out
+abbrev pub RefusesPlaces : Line → Service → Setup → RulesFault → Type 0
+RefusesPlaces line service setup (fault.Outside n) = (1 ≤ n) × IsFirst (IsOutside line service.calls) (length service.calls) (n - 1)
+RefusesPlaces line service setup fault.TooManySteps =
+    ForNone (IsOutside line service.calls) (length service.calls) × IsLongGrid (marks_of line service) setup.step setup.place (last_place service.calls)
+RefusesPlaces line service setup (fault.StopsTooClose n) =
+    ForNone (IsOutside line service.calls) (length service.calls) × (places : List ℕ) × IsShortGrid (marks_of line service) setup.step setup.place (last_place service.calls) places
+    × (1 ≤ n) × IsFirst (IsTooClose service.calls setup.speed places) (length service.calls) (n - 1)
+RefusesPlaces line service setup (fault.DragTooGreat i) = ⊥
+RefusesPlaces line service setup fault.NoMemory = Unit {0}
+
+-- the first refusal: that of the calls and the places, or the first step with too great a drag; memory may run out
+abbrev pub Refuses : Line → Train → Service → Setup → RulesFault → Type 0
+Refuses line train service setup (fault.DragTooGreat i) =
+    (places : List ℕ) × IsAccepted line service setup places × IsFirst (IsTooGreat train places) (length places - 1) i
+Refuses line train service setup (fault.Outside n) = RefusesPlaces line service setup (fault.Outside n)
+Refuses line train service setup fault.TooManySteps = RefusesPlaces line service setup fault.TooManySteps
+Refuses line train service setup (fault.StopsTooClose n) = RefusesPlaces line service setup (fault.StopsTooClose n)
+Refuses line train service setup fault.NoMemory = Unit {0}
+
+-- the joined rules, where nothing refuses them
+pub record Joins (line : Line) (train : Train) (service : Service) (setup : Setup) (r : Rules) : Type 0 where
+  pub joined : IsJoined line train service setup r
+  pub accepted : IsAccepted line service setup r.places
+  pub light : ForNone (IsTooGreat train r.places) (length r.steps)

@@ -12,7 +12,7 @@ use Rattle.rail_specs.specs.Step.{HasSmallDrag}
 use Rattle.train_file.specs.declared.train.Train.{Train}
 use Rattle.drive_rules.specs.declared.joined.fault.RulesFault.{RulesFault}
 use Rattle.drive_rules.specs.declared.joined.fault.RulesFault.TheVariants as fault
-use Rattle.drive_rules.specs.Joined.{stretch_at, Meets, LiesIn, IsCallAt, IsTooGreat}
+use Rattle.drive_rules.specs.Joined.{stretch_at, Meets, LiesIn, IsCallAt, IsTooGreat, IsFirst}
 
 -- each place lies above the one before it
 abbrev pub Rising : List ℕ → Type 0
@@ -75,15 +75,9 @@ pub record AreRows (train : Train) (gradients : List ℤ) (places : List ℕ) (r
   pub each : (i : ℕ) → i < length rows → slice_index_or rows i no_step ≡ numbers_of train (slice_index places (i + 1) - slice_index places i) (slice_index_or gradients i (pos 0))
   pub light : (i : ℕ) → i < length rows → IsTooGreat train places i → ⊥
 
--- i is the first of so many steps with too great a drag
-pub record IsFirstHeavy (train : Train) (places : List ℕ) (count i : ℕ) : Type 0 where
-  pub within : i < count
-  pub great : IsTooGreat train places i
-  pub before : (j : ℕ) → j < i → IsTooGreat train places j → ⊥
-
 -- the refusal is for the first step with too great a drag; memory may run out
 abbrev pub RefusesRows : Train → List ℕ → ℕ → RulesFault → Type 0
-RefusesRows train places count (fault.DragTooGreat i) = IsFirstHeavy train places count i
+RefusesRows train places count (fault.DragTooGreat i) = IsFirst (IsTooGreat train places) count i
 RefusesRows train places count fault.NoMemory = Unit {0}
 RefusesRows train places count (fault.Outside n) = ⊥
 RefusesRows train places count fault.TooManySteps = ⊥
