@@ -1,0 +1,5 @@
+use Rattle.drive_rules.specs.Joining.{NoneClose}
+use Rattle.drive_rules.proofs.joined.points.close_stop.Given as goal
+
+abbrev pub invariant-loop-k : goal.invariant-loop-k
+invariant-loop-k l = NoneClose l.stops l.start l.k

@@ -1,0 +1,10 @@
+//! The rules that a line, a train, a service and a setup give together.
+
+pub(crate) mod course;
+pub mod fault;
+pub(crate) mod layout;
+pub(crate) mod marks;
+pub(crate) mod points;
+pub(crate) mod rows;
+pub(crate) mod sections;
+pub(crate) mod timings;

@@ -1,0 +1,103 @@
+//! From where a train goes on: its place, speed and clock, and the stretches on which it must be slower.
+
+ghost use Rattle.std.specs.Prelude.{◌≡◌, ◌<◌, ◌∷◌, ◌++◌, [], is_ok, if◌then◌else◌, length, slice_set};
+ghost use Rattle.drive_rules.specs.Joined.{first_place};
+
+use line_file::Service;
+use std::alloc::{AllocError, Global};
+use std::marker::Model;
+
+/// A stretch of the line with a lower speed limit.
+#[derive(Clone, Copy, Debug, PartialEq, Eq)]
+pub struct Stretch {
+    /// Where the stretch begins, m.
+    pub from: u32,
+    /// Where it ends, m; above `from`.
+    pub to: u32,
+    /// The speed limit, cm/s, 1 to 12,000.
+    pub limit: u16,
+}
+
+/// Stretches in any order. Contracts see the list.
+#[derive(Drop)]
+pub struct StretchList {
+    items: Vec<Stretch>,
+}
+
+impl Model for StretchList {
+    ghost use Rattle.std.specs.Prelude.{List};
+    ghost use Rattle.drive_rules.specs.declared.setup.Stretch.{Stretch};
+
+    ghost Value = { List Stretch };
+
+    ghost view = { λ s. s.items.items };
+}
+
+impl StretchList {
+    /// An empty list, which takes no memory.
+    pub fn new(alloc: Global) -> StretchList
+        ensures { result ≡ [] }
+    {
+        StretchList {
+            items: Vec::new(alloc),
+        }
+    }
+
+    /// The items in order.
+    pub fn items(&self) -> &[Stretch]
+        ensures { result.now ≡ self.now }
+    {
+        self.items.as_slice()
+    }
+
+    /// Puts another item in the place of one.
+    pub fn set(&mut self, i: usize, item: Stretch)
+        requires { i < length self.old }
+        ensures { self.new ≡ slice_set self.old i item }
+    {
+        self.items[i] = item;
+    }
+
+    /// Appends an item, or leaves the list as it was where there is no memory.
+    pub fn push(&mut self, item: Stretch) -> Result<(), AllocError>
+        ensures { self.new ≡ (if is_ok result then self.old ++ item ∷ [] else self.old) }
+    {
+        self.items.push(item)?;
+        Ok(())
+    }
+}
+
+/// From where, and how, a train goes on.
+#[derive(Drop)]
+pub struct Setup {
+    /// The length of a step where nothing cuts it shorter, m, 10 to 1,000.
+    pub step: u16,
+    /// The train's place, m: from the first call's place to below the last call's.
+    pub place: u32,
+    /// The train's speed, cm/s, at most 12,000.
+    pub speed: u16,
+    /// The clock of the service at the train's place, s, at most 172,800.
+    pub clock: u32,
+    /// The stretches with a lower speed limit.
+    pub stretches: StretchList,
+}
+
+impl Setup {
+    /// At rest at the first call, with the clock at 0 and no stretch. It takes no memory.
+    pub fn fresh(alloc: Global, step: u16, service: &Service) -> Setup
+        requires { 0 < length service.now.calls }
+        ensures step { result.step ≡ step }
+        ensures place { result.place ≡ first_place service.now.calls }
+        ensures speed { result.speed ≡ 0 }
+        ensures clock { result.clock ≡ 0 }
+        ensures stretches { result.stretches ≡ [] }
+    {
+        Setup {
+            step,
+            place: service.calls.items()[0].place,
+            speed: 0,
+            clock: 0,
+            stretches: StretchList::new(alloc),
+        }
+    }
+}
