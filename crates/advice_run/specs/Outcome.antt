@@ -19,7 +19,7 @@ use Rattle.train_file.specs.TrainText.{train_of}
 use Rattle.drive_rules.specs.declared.setup.Setup.{Setup}
 use Rattle.drive_rules.specs.declared.joined.fault.RulesFault.{RulesFault}
 use Rattle.drive_rules.specs.declared.joined.fault.RulesFault.TheVariants as rules
-use Rattle.drive_rules.specs.Joined.{IsJoined, Refuses, first_place}
+use Rattle.drive_rules.specs.Joined.{Joins, Refuses, first_place}
 use Rattle.rail_specs.specs.Rules.{Rules}
 use Rattle.rail_specs.specs.Faults.{Rose, Told, Appends}
 use Rattle.rail_specs.specs.Report.{line as text_line, spaced}
@@ -157,7 +157,7 @@ pub record IsRulesRefusal (line : Line) (train : Train) (service : Service) (set
 -- the refusal of these
 abbrev pub IsJoinedAnswer : Line → Train → ℕ → ℕ → Service → ℕ → List ℕ → Type 0
 IsJoinedAnswer line train step tolerance service status text =
-    ((r : Rules) × (IsJoined line train service (fresh_setup service step) r × IsPlanAnswer r tolerance status text))
+    ((r : Rules) × (Joins line train service (fresh_setup service step) r × IsPlanAnswer r tolerance status text))
     ⊎ IsRulesRefusal line train service (fresh_setup service step) status text
 
 -- the answer once the line and the train are read: over the service's file

@@ -8,7 +8,8 @@ use rail_base::put_number;
 use std::alloc::{AllocError, Global};
 
 /// A line for each command.
-const USAGE: &[u8] = b"usage: advice route FILE [--tolerance N]\n       advice plan LINE TRAIN SERVICE [--step N] [--tolerance N]\n";
+const USAGE: &[u8] =
+    b"usage: advice route FILE [--tolerance N]\n       advice plan LINE TRAIN SERVICE [--step N] [--tolerance N]\n";
 
 /// A text, and the status that the program ends with once the text is written.
 #[derive(Drop)]

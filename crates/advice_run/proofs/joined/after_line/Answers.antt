@@ -21,8 +21,8 @@ returns-in-Read-clause-may g c =
     ok_map c.after_train.result (λ (a : Answer). AfterTrain w.service.now w.step w.tolerance told' before' now c.args.line.now c.in-Read.train a.status a.text.items)
     (λ (a : Answer). AfterLine w.train.now w.service.now w.step w.tolerance told before now c.args.line.now a.status a.text.items)
     (λ a h. goes_on (codes "train") w.train.now told before now train_of train_fault_words (λ (t : Train). AfterTrain w.service.now w.step w.tolerance told before now c.args.line.now t)
-      c.in-Read.train a.status a.text.items says
-      (after_train_carried w.service.now w.step w.tolerance told told' before before' now c.args.line.now c.in-Read.train a.status a.text.items c.in_ok-train.ensures.kept c.in_ok-train.ensures.later h))
+    c.in-Read.train a.status a.text.items says
+    (after_train_carried w.service.now w.step w.tolerance told told' before before' now c.args.line.now c.in-Read.train a.status a.text.items c.in_ok-train.ensures.kept c.in_ok-train.ensures.later h))
     c.after_train.ensures.may
 
 pub returns-in-Ends-clause-may : goal.returns-in-Ends-clause-may

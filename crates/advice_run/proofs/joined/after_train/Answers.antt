@@ -18,7 +18,7 @@ returns-in-Read-clause-may g c =
     ok_map c.joined_answer.result (λ (a : Answer). IsJoinedAnswer c.args.line.now c.args.train.now w.step w.tolerance c.in-Read.service a.status a.text.items)
     (λ (a : Answer). AfterTrain w.service.now w.step w.tolerance told before now c.args.line.now c.args.train.now a.status a.text.items)
     (λ a h. goes_on (codes "service") w.service.now told before now service_of service_fault_words (λ (s : Service). IsJoinedAnswer c.args.line.now c.args.train.now w.step w.tolerance s)
-      c.in-Read.service a.status a.text.items says h)
+    c.in-Read.service a.status a.text.items says h)
     c.joined_answer.ensures
 
 pub returns-in-Ends-clause-may : goal.returns-in-Ends-clause-may

@@ -22,8 +22,8 @@ returns-in-Read-clause-may g c =
     ok_map c.after_line.result (λ (a : Answer). AfterLine w.train.now w.service.now w.step w.tolerance told' before' now c.in-Read.line a.status a.text.items)
     (λ (a : Answer). MayWrite (Plan w.line.now w.train.now w.service.now w.step w.tolerance) told before now a.status a.text.items)
     (λ a h. goes_on (codes "line") w.line.now told before now line_of line_fault_words (λ (l : Line). AfterLine w.train.now w.service.now w.step w.tolerance told before now l)
-      c.in-Read.line a.status a.text.items says
-      (after_line_carried w.train.now w.service.now w.step w.tolerance told told' before before' now c.in-Read.line a.status a.text.items c.in_ok-line.ensures.kept c.in_ok-line.ensures.later h))
+    c.in-Read.line a.status a.text.items says
+    (after_line_carried w.train.now w.service.now w.step w.tolerance told told' before before' now c.in-Read.line a.status a.text.items c.in_ok-line.ensures.kept c.in_ok-line.ensures.later h))
     c.after_line.ensures.may
 
 pub returns-in-Ends-clause-may : goal.returns-in-Ends-clause-may
