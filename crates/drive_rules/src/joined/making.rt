@@ -47,13 +47,7 @@ impl Rules {
     {
         let layout = lay_out(alloc, line, service, setup)?;
         let course = course_over(alloc, line, train, setup, &layout.places, steps)?;
-        let times = times_of(
-            alloc,
-            service,
-            setup.clock,
-            &layout.places,
-            &layout.visits,
-        )?;
+        let times = times_of(alloc, service, setup.clock, &layout.places, &layout.visits)?;
         let traction = train.traction.copy(alloc)?;
         let brake = train.brake.copy(alloc)?;
         Ok(Rules::from_parts(Parts {
