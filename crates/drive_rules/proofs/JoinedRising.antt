@@ -1,6 +1,9 @@
 -- Calls, sections and places that rise.
 use Rattle.std.proofs.Common.{ℕ, zero, suc, ◌≡◌, ◌<◌, ◌≤◌, ◌+◌, List, length, get_or, subst, sym, arith, inl, inr, add-one, ap}
 use Rattle.std.proofs.lemmas.Bool.{cases_lt, cases_eq}
+use Rattle.rail_specs.specs.declared.Timing.{Timing}
+use Rattle.rail_specs.specs.Rules.{no_timing}
+use Rattle.drive_rules.specs.Timings.{Rises}
 use Rattle.line_file.specs.declared.sections.Section.{Section}
 use Rattle.line_file.specs.declared.calls.Call.{Call}
 use Rattle.line_file.specs.Shape.{section_at, call_at, AreSections}
@@ -16,6 +19,9 @@ rises_to f n h i (suc j) l m = elim (cases_eq i j) [
 
 pub calls_rise : (calls : List Call) → CallsRise calls → (i j : ℕ) → i < j → j < length calls → (call_at calls i).place < (call_at calls j).place
 calls_rise calls h = rises_to (λ k. (call_at calls k).place) (length calls) h
+
+pub timings_rise : (timings : List Timing) → Rises timings → (i j : ℕ) → i < j → j < length timings → (get_or timings i no_timing).point < (get_or timings j no_timing).point
+timings_rise timings h = rises_to (λ k. (get_or timings k no_timing).point) (length timings) h
 
 pub places_rise : (places : List ℕ) → Rising places → (i j : ℕ) → i < j → j < length places → get_or places i 0 < get_or places j 0
 places_rise places h = rises_to (λ k. get_or places k 0) (length places) h

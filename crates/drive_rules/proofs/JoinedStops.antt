@@ -52,24 +52,38 @@ pub close_call : (calls : List Call) (places visits : List ℕ) (stops : List Bo
 close_call calls places visits stops speed k rise s l close =
     let stop : is_stop_call calls (get_or visits (k + 1) 0) ≡ true = sym (s.each (k + 1) l) ∙ close.0 in
     let at = stop_call calls places (k + 1) (get_or visits (k + 1) 0) (s.visits_are.each (k + 1) l) stop in
-    let there : k < length visits = omega (arith, l) in
-    ((stop, k, omega (arith, l, s.visits_are.count), sym at.2, elim close.1 [
-      | inl before ↦ (let other : is_stop_call calls (get_or visits k 0) ≡ true = sym (s.each k there) ∙ before in
-          let b = stop_call calls places k (get_or visits k 0) (s.visits_are.each k there) other in
-          inr (b.1, (get_or visits k 0, b.0, b.2, other)))
-      | inr start ↦ inl start
-    ]), at.0)
+    let there : k < length visits = omega (arith, l) in (
+      (
+        stop,
+        k,
+        omega (arith, l, s.visits_are.count),
+        sym at.2,
+        elim close.1 [
+          | inl before ↦ (let other : is_stop_call calls (get_or visits k 0) ≡ true = sym (s.each k there) ∙ before in
+              let b = stop_call calls places k (get_or visits k 0) (s.visits_are.each k there) other in
+              inr (b.1, (get_or visits k 0, b.0, b.2, other)))
+          | inr start ↦ inl start
+        ],
+      ),
+      at.0,
+    )
 
 pub call_close : (calls : List Call) (places visits : List ℕ) (stops : List Bool) (speed i : ℕ) → CallsRise calls → AreStops calls places visits stops → i < length calls →
     IsTooClose calls speed places i → (k : ℕ) × (k + 1 < length visits) × (get_or places (k + 1) 0 ≡ (call_at calls i).place) × IsCloseStop stops speed k
 call_close calls places visits stops speed i rise s l (stop, k, there, e, other) =
     let next : k + 1 < length visits = omega (arith, there, s.visits_are.count) in
-    let here : k < length visits = omega (arith, next) in
-    (k, next, e, (s.each (k + 1) next ∙ call_stop calls places (k + 1) (get_or visits (k + 1) 0) rise (omega arith) (s.visits_are.each (k + 1) next) (i, l, sym e, stop),
-      elim other [
-        | inl start ↦ inr start
-        | inr before ↦ inl (s.each k here ∙ call_stop calls places k (get_or visits k 0) rise before.0 (s.visits_are.each k here) before.1)
-      ]))
+    let here : k < length visits = omega (arith, next) in (
+      k,
+      next,
+      e,
+      (
+        s.each (k + 1) next ∙ call_stop calls places (k + 1) (get_or visits (k + 1) 0) rise (omega arith) (s.visits_are.each (k + 1) next) (i, l, sym e, stop),
+        elim other [
+          | inl start ↦ inr start
+          | inr before ↦ inl (s.each k here ∙ call_stop calls places k (get_or visits k 0) rise before.0 (s.visits_are.each k here) before.1)
+        ],
+      ),
+    )
 
 -- the first stop too close
 pub first_close : (calls : List Call) (places visits : List ℕ) (stops : List Bool) (speed k : ℕ) → CallsRise calls → Rising places → AreStops calls places visits stops → k + 1 < length stops →

@@ -9,9 +9,11 @@ use Rattle.distance_grid.specs.Answer.{IsShortGrid, IsLongGrid}
 use Rattle.drive_rules.specs.declared.setup.Setup.{Setup}
 use Rattle.drive_rules.specs.declared.joined.layout.Layout.{Layout}
 use Rattle.drive_rules.specs.declared.joined.course.Course.{Course}
+use Rattle.drive_rules.specs.declared.joined.times.Times.{Times}
+use Rattle.line_file.specs.ServiceText.{latest_count}
 use Rattle.drive_rules.specs.declared.joined.fault.RulesFault.{RulesFault}
 use Rattle.drive_rules.specs.declared.joined.fault.RulesFault.TheVariants as fault
-use Rattle.drive_rules.specs.Joined.{IsAccepted, IsStepOf, IsLeastLimit, IsTooGreat, IsTooClose, IsFirst, is_stop_call, marks_of, last_place}
+use Rattle.drive_rules.specs.Joined.{IsAccepted, IsStepOf, IsLeastLimit, IsTooGreat, IsTooClose, IsFirst, is_stop_call, dwell_of, AreTimings, marks_of, last_place}
 use Rattle.drive_rules.specs.Joining.{AreCallsAt, NoneClose}
 
 -- the refusal of a grid that is too long; memory may run out
@@ -49,3 +51,11 @@ pub record IsCourse (line : Line) (train : Train) (setup : Setup) (places : List
   pub light : (i : ℕ) → i < length c.rows.items → IsTooGreat train places i → ⊥
   pub limits_count : length c.limits.items ≡ length c.rows.items
   pub each_limit : (i : ℕ) → i < length c.limits.items → IsLeastLimit line.limits setup.stretches (slice_index places i) (slice_index places (i + 1)) (slice_index c.limits.items i)
+
+-- the dwells of the points, and the timing points
+pub record AreTimes (calls : List Call) (clock : ℕ) (places visits : List ℕ) (t : Times) : Type 0 where
+  pub dwells_count : length t.dwells.items ≡ length visits
+  pub each_dwell : (k : ℕ) → k < length visits → slice_index t.dwells.items k ≡ dwell_of calls (slice_index visits k)
+  pub short : (k : ℕ) → slice_index t.dwells.items k ≤ 7200000
+  pub timings_are : AreTimings calls (slice_index places 0) clock places t.timings.items
+  pub few : length t.timings.items ≤ latest_count calls

@@ -1,7 +1,8 @@
 //! From where a train goes on: its place, speed and clock, and the stretches on which it must be slower.
 
-ghost use Rattle.std.specs.Prelude.{◌≡◌, ◌<◌, ◌∷◌, ◌++◌, [], is_ok, if◌then◌else◌, length, slice_set};
-ghost use Rattle.drive_rules.specs.Joined.{first_place};
+ghost use Rattle.std.specs.Prelude.{◌≡◌, ◌<◌, ◌≤◌, ◌∷◌, ◌++◌, [], is_ok, if◌then◌else◌, length, slice_set};
+ghost use Rattle.drive_rules.specs.Joined.{IsSetup, first_place};
+ghost use Rattle.line_file.specs.Shape.{IsService};
 
 use line_file::Service;
 use std::alloc::{AllocError, Global};
@@ -91,6 +92,7 @@ impl Setup {
         ensures speed { result.speed ≡ 0 }
         ensures clock { result.clock ≡ 0 }
         ensures stretches { result.stretches ≡ [] }
+        ensures setup { IsService service.now → 10 ≤ step → step ≤ 1000 → IsSetup service.now result }
     {
         Setup {
             step,

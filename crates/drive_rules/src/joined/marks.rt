@@ -24,11 +24,7 @@ fn push_ends(marks: &mut Vec<u32>, sections: &[Section]) -> Result<(), AllocErro
 }
 
 /// The places of the calls, and the ends of the sections of both kinds.
-pub(crate) fn marks(
-    alloc: Global,
-    line: &Line,
-    service: &Service,
-) -> Result<Vec<u32>, AllocError>
+pub(crate) fn marks(alloc: Global, line: &Line, service: &Service) -> Result<Vec<u32>, AllocError>
     ensures { IfOk result (λ marks. marks.items ≡ marks_of line.now service.now) }
 {
     let mut marks = places_of(alloc, service.calls.items())?;

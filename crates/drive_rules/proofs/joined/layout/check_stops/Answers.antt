@@ -9,5 +9,5 @@ returns-in-Some-clause-refused c =
     let same : v ≡ v + 1 - 1 = omega arith in (
       omega arith,
       subst (λ (n : ℕ). IsFirst (IsTooClose c.args.calls.now c.args.speed c.args.places.now) (length c.args.calls.now) n) same
-      (first_close c.args.calls.now c.args.places.now c.args.visits.now c.args.stops.now c.args.speed c.in-Some.k c.requires.calls c.requires.rising c.requires.stops c.in-Some.ensures.found c.in-Some.ensures.close c.in-Some.ensures.first),
+          (first_close c.args.calls.now c.args.places.now c.args.visits.now c.args.stops.now c.args.speed c.in-Some.k c.requires.calls c.requires.rising c.requires.stops c.in-Some.ensures.found c.in-Some.ensures.close c.in-Some.ensures.first),
     )

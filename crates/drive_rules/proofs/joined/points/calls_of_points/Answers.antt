@@ -17,9 +17,9 @@ loop-k-preserved c =
       within = c.call_from-next.ensures.within;
       before = λ j l m. next (c.requires.rising k m) j l;
       each = pushed (λ i j. IsCallAt calls places i j) c.loop-k.visits.items c.push-in-loop-k.new.self.items c.call_at_place.result 0 c.in_ok-push-2.ensures.items c.loop-k.invariant.each
-      (rw n record {
-        call = λ l. (omega (arith, c.loop-k.auto.k), c.call_at_place.ensures.call l);
-        none = λ l m. c.call_at_place.ensures.none l;
-        index = c.call_at_place.ensures.within;
-      });
+          (rw n record {
+            call = λ l. (omega (arith, c.loop-k.auto.k), c.call_at_place.ensures.call l);
+            none = λ l m. c.call_at_place.ensures.none l;
+            index = c.call_at_place.ensures.within;
+          });
     }

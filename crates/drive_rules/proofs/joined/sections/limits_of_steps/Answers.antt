@@ -17,6 +17,6 @@ loop-i-preserved c =
     record {
       count = omega (arith, n, c.in_ok-push.ensures.len);
       each = pushed (λ j v. (b : ℕ) × (pos b ≡ get_or values j (pos 0)) × IsLowered c.args.stretches.now (get_or places j 0) (get_or places (j + 1) 0) b v)
-      c.loop-i.limits.items c.push.new.self.items c.lowered-limit.result 0 c.in_ok-push.ensures.items c.loop-i.invariant.each
-      (rw n (c.speed_of.result, speed, c.lowered-limit.ensures));
+          c.loop-i.limits.items c.push.new.self.items c.lowered-limit.result 0 c.in_ok-push.ensures.items c.loop-i.invariant.each
+          (rw n (c.speed_of.result, speed, c.lowered-limit.ensures));
     }

@@ -27,5 +27,5 @@ loop-i-preserved c =
       there = c.section_from-k.ensures.there;
       begun = rw count (omega (arith, begun, rise));
       each = pushed (λ j v. LiesIn sections (get_or places j 0) (get_or places (j + 1) 0) v) c.loop-i.values.items c.push.new.self.items value (pos 0) items c.loop-i.invariant.each
-      (k, c.section_from-k.ensures.there, begun, c.requires.cut.whole k m c.section_from-k.ensures.there inside ends, refl);
+          (k, c.section_from-k.ensures.there, begun, c.requires.cut.whole k m c.section_from-k.ensures.there inside ends, refl);
     }

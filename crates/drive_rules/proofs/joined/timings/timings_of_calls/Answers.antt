@@ -29,7 +29,7 @@ loop-j-preserved c =
           subst (λ (z : ℤ). w.push.new.self.items ≡ c.loop-j.timings.items ++ (let u : Timing = record { point = w.point_from-point.result; latest = z } in u) ∷ []) same w.in_ok-push-in-Some.ensures.items in
           rw (w.timings-is, w.point-is)
           (timed_one calls places c.args.clock j c.loop-j.point w.point_from-point.result w.in-Some.seconds c.loop-j.timings.items w.push.new.self.items t some there c.requires.calls.rising c.requires.rising
-            w.if-places-calls.true w.in-Some.is w.latest_after.ensures.value refl w.point_from-point.ensures.there w.point_from-point.ensures.at items c.loop-j.invariant))
+          w.if-places-calls.true w.in-Some.is w.latest_after.ensures.value refl w.point_from-point.ensures.there w.point_from-point.ensures.at items c.loop-j.invariant))
       | in-Some+else-places-calls w ↦ rw (w.timings-is, w.point-is) (timed_none calls places c.args.clock j c.loop-j.point c.loop-j.timings.items some there (λ after. absurd (omega (arith, after, w.if-places-calls.false))) c.loop-j.invariant)
       | in-None w ↦ rw (w.timings-is, w.point-is) (timed_none calls places c.args.clock j c.loop-j.point c.loop-j.timings.items some there (λ after. w.in-None.is) c.loop-j.invariant)
     ]
