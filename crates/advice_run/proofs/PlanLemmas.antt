@@ -1,6 +1,6 @@
 -- The answers to the rules of a run.
-use Rattle.std.proofs.Common.{ℕ, zero, suc, ◌≡◌, ◌≤◌, ◌<◌, ◌+◌, ◌↔◌, List, Bool, true, false, IsTrue, length, refl, arith, inl, inr}
-use Rattle.std.specs.Prelude.{ℤ, pos, negsuc, ◌≤ℤ◌, if◌then◌else◌, Result, Ok, Err, IfOk}
+use Rattle.std.proofs.Common.{ℕ, zero, suc, ◌≡◌, ◌↔◌, List, Bool, IsTrue, length, refl, arith, inl, inr}
+use Rattle.std.specs.Prelude.{ℤ, pos, negsuc, ◌≤ℤ◌, if◌then◌else◌, Result, Ok, Err, IfOk, OnOk}
 use Rattle.std.proofs.lemmas.Int.{ints}
 use Rattle.rail_specs.specs.Rules.{Rules, IsGreatestDrive, timing_at, work_at}
 use Rattle.rail_specs.specs.Times.{IsOnTimeUp, NoneOnTime, IsFirstLate, time_up}
@@ -65,3 +65,8 @@ late_answer r tolerance text speeds j g n f x = inr (inl (
 pub ok_map : {A E : Type 0} (r : Result A E) (P Q : A → Type 0) → ((a : A) → P a → Q a) → IfOk r P → IfOk r Q
 ok_map (Ok a) P Q f h = f a h
 ok_map (Err e) P Q f h = tt
+
+-- what holds of an answer where there is one, from a fact and what holds of it
+pub ok_both : {A E : Type 0} (r : Result A E) (F : Type 0) (P Q : A → Type 0) → ((a : A) → F → P a → Q a) → OnOk r F → IfOk r P → IfOk r Q
+ok_both (Ok a) F P Q f o h = f a o h
+ok_both (Err e) F P Q f o h = tt

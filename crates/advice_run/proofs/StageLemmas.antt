@@ -1,5 +1,5 @@
 -- What comes of the files of a run, one after the other.
-use Rattle.std.proofs.Common.{ℕ, ◌≡◌, ◌≤◌, ◌<◌, ◌∙◌, List, Option, Some, None, Bool, true, false, length, take, refl, sym, subst, codes, arith, inl, inr, ◌⊎◌}
+use Rattle.std.proofs.Common.{ℕ, ◌≡◌, ◌≤◌, ◌<◌, ◌∙◌, List, Some, None, Bool, true, false, length, take, refl, subst, codes, arith, inl, inr}
 use Rattle.std.specs.Prelude.{Result, Ok, Err, MatchBool, MatchResult, Vec, nat_lt}
 use Rattle.std.specs.declared.alloc.Global.{Global}
 use Rattle.std.proofs.lemmas.Bool.{le-ltb}

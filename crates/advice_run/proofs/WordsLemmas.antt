@@ -1,6 +1,6 @@
 -- The words of a command, from what a parse says.
-use Rattle.std.proofs.Common.{◌≡◌, ℕ, codes, ◌∙◌, ◌∷◌, List, [], Option, Some, None, Bool, true, false, refl, sym, ap, ap₂, option_map, unwrap_or, Bor, rules}
-use Rattle.clap.specs.Words.{App, HasMatchesOf, IsAmong, Kinds, Text, fault_of, first_of, first_value, found_of, is_simple, is_simple_and_free, matches_of, rows_of}
+use Rattle.std.proofs.Common.{◌≡◌, ℕ, codes, ◌∙◌, ◌∷◌, List, [], Option, Some, None, true, false, refl, sym, ap, unwrap_or, rules}
+use Rattle.clap.specs.Words.{App, HasMatchesOf, IsAmong, Kinds, Text, fault_of, first_value, found_of, is_simple, is_simple_and_free, matches_of, rows_of}
 use Rattle.clap.specs.Walk.{Row, is_empty}
 use Rattle.clap.specs.Faults.{is_free_app}
 use Rattle.clap.specs.Simple.{built}

@@ -3,7 +3,6 @@ use Rattle.std.specs.Prelude.{ℕ, ◌≡◌, ◌≤◌, ◌<◌, List, Result, 
 use Rattle.std.specs.declared.alloc.Global.{Global}
 use Rattle.rail_specs.specs.Faults.{Told}
 use Rattle.advice_run.specs.Outcome.{IsRefusal, IsReadFault, MayHold, MayRead, Says, most_bytes}
-use Rattle.advice_run.specs.declared.answer.Answer.{Answer}
 use Rattle.advice_run.specs.declared.stage.Stage.{Stage}
 use Rattle.advice_run.specs.declared.stage.Stage.TheVariants.{Read, Ends}
 

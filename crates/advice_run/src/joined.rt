@@ -1,10 +1,10 @@
 //! The command `plan`: a line, a train and a service, one file after the other, and their joined rules.
 
-ghost use Rattle.std.specs.Prelude.{◌≡◌, ◌≢◌, ◌≤◌, ℕ, List, IfOk};
+ghost use Rattle.std.specs.Prelude.{◌≡◌, ◌≢◌, ◌≤◌, ℕ, List, codes, IfOk, OnOk};
 ghost use Rattle.line_file.specs.Shape.{IsLine, IsService};
 ghost use Rattle.train_file.specs.Shape.{IsTrain};
 ghost use Rattle.advice_run.specs.Words.{Plan};
-ghost use Rattle.advice_run.specs.Outcome.{AfterLine, AfterTrain, IsJoinedAnswer, MayWrite, Names, rules_fault_words as words_of_rules_fault};
+ghost use Rattle.advice_run.specs.Outcome.{AfterLine, AfterTrain, IsJoinedAnswer, IsRefusal, MayWrite, Names, rules_fault_words as words_of_rules_fault};
 
 use crate::answer::{Answer, numbered, refusal};
 use crate::command_line::PlanWords;
@@ -32,6 +32,18 @@ fn rules_fault_words(alloc: Global, fault: RulesFault) -> Result<Vec<u8>, AllocE
     }
 }
 
+/// The answer that joined rules are refused, where it isn't for want of memory.
+fn rules_refusal(alloc: Global, fault: RulesFault) -> Result<Answer, AllocError>
+    ensures sound { OnOk result (fault ≢ RulesFault.NoMemory) }
+    ensures says { IfOk result (λ a. IsRefusal (codes "rules") (words_of_rules_fault fault) a.status a.text.items) }
+{
+    if let RulesFault::NoMemory = fault {
+        return Err(AllocError);
+    }
+    let words = rules_fault_words(alloc, fault)?;
+    refusal(alloc, b"rules", words.as_slice())
+}
+
 /// The answer to a line, a train and a service.
 fn joined_answer<L: Ledger>(
     alloc: Global,
@@ -51,11 +63,7 @@ fn joined_answer<L: Ledger>(
     let setup = Setup::fresh(alloc, asked.step as u16, service);
     match Rules::make(alloc, line, train, service, &setup, steps) {
         Ok(rules) => plan_answer(alloc, &rules, asked.tolerance),
-        Err(RulesFault::NoMemory) => Err(AllocError),
-        Err(fault) => {
-            let words = rules_fault_words(alloc, fault)?;
-            refusal(alloc, b"rules", words.as_slice())
-        }
+        Err(fault) => rules_refusal(alloc, fault),
     }
 }
 

@@ -95,6 +95,22 @@ fn join_with<L: Ledger>(
     Rules::make(alloc, line, train, service, setup, &mut steps)
 }
 
+/// Joins files and a setup.
+fn join_files(
+    alloc: Global,
+    line: &Line,
+    train: &Train,
+    service: &Service,
+    setup: &Setup,
+) -> Result<Rules, RulesFault>
+    requires line { IsLine line.now }
+    requires train { IsTrain train.now }
+    requires service { IsService service.now }
+    requires setup { IsSetup service.now setup.now }
+{
+    join_with::<Brand>(alloc, line, train, service, setup, Blank::new(1))
+}
+
 /// Joins two texts, a train with this drag and a setup.
 fn join(
     alloc: Global,
@@ -108,11 +124,15 @@ fn join(
 ) -> Option<Result<Rules, RulesFault>>
     requires { c ≤ 10000000 }
 {
-    let line = read_line(alloc, line).ok()?;
-    let service = read_service(alloc, service).ok()?;
+    let Ok(line) = read_line(alloc, line) else {
+        return None;
+    };
+    let Ok(service) = read_service(alloc, service) else {
+        return None;
+    };
     let train = train_with(alloc, c)?;
     let setup = setup_at(alloc, &service, place, speed, clock, stretch)?;
-    let rules = join_with::<Brand>(alloc, &line, &train, &service, &setup, Blank::new(1));
+    let rules = join_files(alloc, &line, &train, &service, &setup);
     Some(rules)
 }
 

@@ -1,4 +1,4 @@
-use Rattle.std.proofs.Common.{◌≡◌, ◌∙◌, ◌⊎◌, inl, inr, ap, map, string_bytes}
+use Rattle.std.proofs.Common.{◌∙◌, inl, inr}
 use Rattle.clap.specs.Words.{app_of, kind_of}
 use Rattle.advice_run.proofs.WordsLemmas.{taken-none, taken-some}
 use Rattle.advice_run.proofs.command_line.matches_of.Goals as goal

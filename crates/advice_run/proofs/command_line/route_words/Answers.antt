@@ -1,6 +1,5 @@
-use Rattle.std.proofs.Common.{ap, sym, ◌∙◌, codes}
+use Rattle.std.proofs.Common.{sym, ◌∙◌}
 use Rattle.clap.specs.Words.{found_of, rows_of}
-use Rattle.advice_run.specs.Words.{Route, number_in}
 use Rattle.advice_run.proofs.WordsLemmas.{route_from}
 use Rattle.advice_run.proofs.command_line.route_words.Goals as goal
 

@@ -1,4 +1,4 @@
-use Rattle.std.proofs.Common.{arith, refl, ◌≡◌, to_z, of_z}
+use Rattle.std.proofs.Common.{arith, ◌≡◌, to_z, of_z}
 use Rattle.std.proofs.lemmas.Int.{ints}
 use mir.Syntax.{w128}
 use Rattle.advice_run.proofs.PlanLemmas.{drive_answer}
