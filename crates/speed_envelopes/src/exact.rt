@@ -9,7 +9,8 @@ use drive_rules::Rules;
 use rail_specs::Narrow;
 use std::alloc::{AllocError, Global};
 
-/// The exact ranges of speeds under a narrowing: none exactly where there is no drive under it.
+/// The exact ranges of speeds under a narrowing, one for each point: none exactly where there is no drive under it.
+/// `AllocError` is want of memory.
 pub fn ranges(alloc: Global, rules: &Rules, narrow: &Narrow) -> Result<Option<Ranges>, AllocError>
     ensures some { IfOk result (λ found. IfSome found (λ r. AreRanges rules.now narrow.now r.low r.high)) }
     ensures none { IfOk result (λ found. IfNone found (NoNarrowDrive rules.now narrow.now)) }

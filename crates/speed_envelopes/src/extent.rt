@@ -35,7 +35,7 @@ impl Ranges {
         Ranges { low, high }
     }
 
-    /// The number of points, at least one.
+    /// The number of points, at least one. It takes no memory.
     pub fn points(&self) -> usize
         ensures value { result ≡ length self.now.high }
         ensures both { result ≡ length self.now.low }
@@ -44,7 +44,7 @@ impl Ranges {
         self.high.speeds().len()
     }
 
-    /// The least speed at point i, cm/s.
+    /// The least speed at point i, cm/s. It takes no memory.
     pub fn low(&self, i: usize) -> u16
         requires { i < length self.now.low }
         ensures { result ≡ slice_index self.now.low i }
@@ -52,7 +52,7 @@ impl Ranges {
         self.low.speeds()[i]
     }
 
-    /// The greatest speed at point i, cm/s.
+    /// The greatest speed at point i, cm/s. It takes no memory.
     pub fn high(&self, i: usize) -> u16
         requires { i < length self.now.high }
         ensures { result ≡ slice_index self.now.high i }
@@ -60,21 +60,21 @@ impl Ranges {
         self.high.speeds()[i]
     }
 
-    /// The greatest drive.
+    /// The greatest drive. `AllocError` is want of memory.
     pub fn greatest(&self, alloc: Global) -> Result<Drive, AllocError>
         ensures { IfOk result (λ drive. drive ≡ self.now.high) }
     {
         Drive::make(alloc, self.high.speeds())
     }
 
-    /// The least drive.
+    /// The least drive. `AllocError` is want of memory.
     pub fn least(&self, alloc: Global) -> Result<Drive, AllocError>
         ensures { IfOk result (λ drive. drive ≡ self.now.low) }
     {
         Drive::make(alloc, self.low.speeds())
     }
 
-    /// Per point the least and the greatest speed.
+    /// Per point the least and the greatest speed, cm/s. `AllocError` is want of memory.
     pub fn pairs(&self, alloc: Global) -> Result<Vec<(u16, u16)>, AllocError>
         ensures pairs { IfOk result (λ pairs. pairs.items ≡ zip self.now.low self.now.high) }
         ensures some { IfOk result (λ pairs. 1 ≤ length pairs.items) }

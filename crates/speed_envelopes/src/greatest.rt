@@ -79,7 +79,7 @@ fn lowered(
     Ok(Some(drive))
 }
 
-/// The greatest drive under a narrowing: none exactly where there is no drive under it.
+/// The greatest drive under a narrowing: none exactly where there is no drive under it. `AllocError` is want of memory.
 pub fn greatest_under(
     alloc: Global,
     rules: &Rules,
@@ -92,7 +92,7 @@ pub fn greatest_under(
     lowered(alloc, rules, narrow, speeds)
 }
 
-/// The greatest drive of the rules: none exactly where there is no drive.
+/// The greatest drive of the rules: none exactly where there is no drive. `AllocError` is want of memory.
 pub fn greatest_drive(alloc: Global, rules: &Rules) -> Result<Option<Drive>, AllocError>
     ensures some { IfOk result (λ found. IfSome found (IsGreatestDrive rules.now)) }
     ensures none { IfOk result (λ found. IfNone found (NoDrive rules.now)) }
@@ -104,7 +104,7 @@ pub fn greatest_drive(alloc: Global, rules: &Rules) -> Result<Option<Drive>, All
 /// The greatest drive under a narrowing: none exactly where there is no drive under it.
 ///
 /// The search begins at `known`, the greatest drive under a wider narrowing, and costs little where little changes: so
-/// ask for many narrowings on the same rules each from the one before.
+/// ask for many narrowings on the same rules each from the one before. `AllocError` is want of memory.
 pub fn greatest_from(
     alloc: Global,
     rules: &Rules,

@@ -1,4 +1,9 @@
-//! The exact ranges of speeds that the drives of a run have.
+//! The exact ranges of speeds that the drives of a run have, and the greatest drives.
+//!
+//! A narrowing caps all speeds, and takes the traction from a run of steps. The drives under it are closed under pointwise
+//! greatest and least, so where there is one, one is the greatest and one the least. `ranges` finds both, `greatest_under`
+//! the greatest alone, and `greatest_from` the greatest from one that is known under a wider narrowing. All three are
+//! exact: they find none only where there is none.
 #![tactic(auto)]
 
 mod bounds;

@@ -1,4 +1,8 @@
 //! The search for the greatest levels that keep every step.
+//!
+//! It walks forward over the steps and lowers what a step does not allow: first the exit level, by what the entry gives,
+//! then the entry level, by what the exit gives. Where it lowered an entry it goes back to the step before. So every step
+//! behind it is kept, and nothing was lowered below what other levels that keep every step have there.
 ghost use Rattle.std.specs.Prelude.{◌≡◌, ℕ, ◌+◌, ◌-◌, ◌<◌, ◌≤◌, ◌≤ℤ◌, List, length, slice_index, IfSome, IfNone};
 ghost use Rattle.std.specs.Bool.{OnTrue, OnFalse};
 ghost use Rattle.speed_envelopes.specs.Bounds.{asks, gives, floor};
@@ -113,7 +117,7 @@ pub(crate) fn settle(bounds: &Bounds, levels: &mut [u16]) -> bool
         let Some(moved) = tighten(bounds, i, levels) else {
             return false;
         };
-        // a lower entry may ask for less at the exit of the step before
+        // a lower entry gives less to the entry of the step before
         i = if moved { i.saturating_sub(1) } else { i + 1 };
     }
     true
