@@ -5,7 +5,10 @@ use std::alloc::{AllocError, Global};
 use std::test::Fail;
 
 const LINE: &str = "kind,from,to,value\nlimit,0,200,36\ngradient,0,200,0\n";
-const TRAIN: &str = "mass = 1000\ninertia = 1000\na = 1000\nb = 0\nc = 0\ntraction = [[0, 51000], [1000, 51000]]\nbrake = [[0, 100000], [1000, 100000]]\n";
+
+const TRAIN: &str =
+    "mass = 1000\ninertia = 1000\na = 1000\nb = 0\nc = 0\ntraction = [[0, 51000], [1000, 51000]]\nbrake = [[0, 100000], [1000, 100000]]\n";
+
 const SERVICE: &str = "place,name,dwell,latest\n0,A,,\n200,B,,50\n";
 
 /// Appends a file.
@@ -45,10 +48,30 @@ fn files_are_joined_and_planned(rt: HostRuntime) -> Result<(), Fail> {
     let alloc = rt.alloc();
     let long = "kind,from,to,value\nlimit,0,400,36\ngradient,0,400,0\n";
     let cases: [(&str, &str, u8, &str); 4] = [
-        (LINE, SERVICE, 1, "advice 1\ngap open\nenergy 10200000000000\nkilojoules 5100\nbound 0\nphase 0 100 power 0 1000\nphase 100 200 brake 1000 0\ntime 200 40000 50000\nspeeds 0 1000 0\nend\n"),
-        (long, "place,name,dwell,latest\n0,A,,\n200,B,30,\n400,C,,110\n", 1, "advice 1\ngap open\nenergy 20400000000000\nkilojoules 10200\nbound 0\nphase 0 100 power 0 1000\nphase 100 200 brake 1000 0\nphase 200 300 power 0 1000\nphase 300 400 brake 1000 0\ntime 400 110000 110000\nspeeds 0 1000 0 1000 0\nend\n"),
-        (long, "place,name,dwell,latest\n0,A,,\n200,B,30,\n400,C,,109\n", 5, "advice 1\nlate 400 110000 109000\n"),
-        (LINE, "place,name,dwell,latest\n0,A,,\n100,M,,20\n200,B,,200\n", 1, "advice 1\ngap open\nenergy 10200000000000\nkilojoules 5100\nbound 0\nphase 0 100 power 0 1000\nphase 100 200 brake 1000 0\ntime 100 20000 20000\ntime 200 40000 200000\nspeeds 0 1000 0\nend\n"),
+        (
+            LINE,
+            SERVICE,
+            1,
+            "advice 1\ngap open\nenergy 10200000000000\nkilojoules 5100\nbound 0\nphase 0 100 power 0 1000\nphase 100 200 brake 1000 0\ntime 200 40000 50000\nspeeds 0 1000 0\nend\n",
+        ),
+        (
+            long,
+            "place,name,dwell,latest\n0,A,,\n200,B,30,\n400,C,,110\n",
+            1,
+            "advice 1\ngap open\nenergy 20400000000000\nkilojoules 10200\nbound 0\nphase 0 100 power 0 1000\nphase 100 200 brake 1000 0\nphase 200 300 power 0 1000\nphase 300 400 brake 1000 0\ntime 400 110000 110000\nspeeds 0 1000 0 1000 0\nend\n",
+        ),
+        (
+            long,
+            "place,name,dwell,latest\n0,A,,\n200,B,30,\n400,C,,109\n",
+            5,
+            "advice 1\nlate 400 110000 109000\n",
+        ),
+        (
+            LINE,
+            "place,name,dwell,latest\n0,A,,\n100,M,,20\n200,B,,200\n",
+            1,
+            "advice 1\ngap open\nenergy 10200000000000\nkilojoules 5100\nbound 0\nphase 0 100 power 0 1000\nphase 100 200 brake 1000 0\ntime 100 20000 20000\ntime 200 40000 200000\nspeeds 0 1000 0\nend\n",
+        ),
     ];
     for (line, service, status, text) in cases {
         let got = plan_ended(alloc, line, TRAIN, service, &[])?;
@@ -61,16 +84,52 @@ fn files_are_joined_and_planned(rt: HostRuntime) -> Result<(), Fail> {
 #[test]
 fn files_are_refused_by_their_roles(rt: HostRuntime) -> Result<(), Fail> {
     let alloc = rt.alloc();
-    let rising = "mass = 1000\ninertia = 1000\na = 1000\nb = 0\nc = 0\ntraction = [[0, 51000], [500, 50000], [1000, 50001]]\nbrake = [[0, 100000], [1000, 100000]]\n";
+    let rising =
+        "mass = 1000\ninertia = 1000\na = 1000\nb = 0\nc = 0\ntraction = [[0, 51000], [500, 50000], [1000, 50001]]\nbrake = [[0, 100000], [1000, 100000]]\n";
     let cases: [(&str, &str, &str, &str); 8] = [
         ("", TRAIN, SERVICE, "refused line bad-header\n"),
-        ("kind,from,to,value\n", TRAIN, SERVICE, "refused line no-sections\n"),
-        ("kind,from,to,value\nlimit,0,100,36\nlimit,101,200,36\n", TRAIN, SERVICE, "refused line gap 2\n"),
-        (LINE, rising, SERVICE, "refused train table-rises traction 3\n"),
-        (LINE, "mass = 1.5\n", SERVICE, "refused train wrong-kind mass\n"),
-        (LINE, TRAIN, "place,name,dwell,latest\n0,A,,\n200,B,,\n", "refused service no-final-latest\n"),
-        (LINE, TRAIN, "place,name,dwell,latest\n0,A,,\n40,X,20,\n200,B,,50\n", "refused rules stops-too-close 2\n"),
-        (LINE, TRAIN, "place,name,dwell,latest\n0,A,,\n201,B,,50\n", "refused rules outside 2\n"),
+        (
+            "kind,from,to,value\n",
+            TRAIN,
+            SERVICE,
+            "refused line no-sections\n",
+        ),
+        (
+            "kind,from,to,value\nlimit,0,100,36\nlimit,101,200,36\n",
+            TRAIN,
+            SERVICE,
+            "refused line gap 2\n",
+        ),
+        (
+            LINE,
+            rising,
+            SERVICE,
+            "refused train table-rises traction 3\n",
+        ),
+        (
+            LINE,
+            "mass = 1.5\n",
+            SERVICE,
+            "refused train wrong-kind mass\n",
+        ),
+        (
+            LINE,
+            TRAIN,
+            "place,name,dwell,latest\n0,A,,\n200,B,,\n",
+            "refused service no-final-latest\n",
+        ),
+        (
+            LINE,
+            TRAIN,
+            "place,name,dwell,latest\n0,A,,\n40,X,20,\n200,B,,50\n",
+            "refused rules stops-too-close 2\n",
+        ),
+        (
+            LINE,
+            TRAIN,
+            "place,name,dwell,latest\n0,A,,\n201,B,,50\n",
+            "refused rules outside 2\n",
+        ),
     ];
     for (line, train, service, text) in cases {
         let got = plan_ended(alloc, line, train, service, &[])?;
@@ -90,11 +149,20 @@ fn files_are_read_in_the_order_of_the_words(rt: HostRuntime) -> Result<(), Fail>
     put_file(alloc, &mut half.files, "l", LINE)?;
     let no_train = run_words(alloc, &["plan", "l", "t", "s"], half)?;
     assert_eq!(rt; no_train.text.as_str(), "read fault train\n");
-    for words in [["plan", "a", "b"].as_slice(), ["plan", "a", "b", "c", "--step", "9"].as_slice()] {
+    for words in [
+        ["plan", "a", "b"].as_slice(),
+        ["plan", "a", "b", "c", "--step", "9"].as_slice(),
+    ] {
         let got = run_words(alloc, words, plain(alloc))?;
         assert_eq!(rt; got.status, 2);
     }
-    let wide = plan_ended(alloc, LINE, TRAIN, SERVICE, &["--step=1000", "--tolerance=1000"])?;
+    let wide = plan_ended(
+        alloc,
+        LINE,
+        TRAIN,
+        SERVICE,
+        &["--step=1000", "--tolerance=1000"],
+    )?;
     assert_eq!(rt; wide.text.as_str(), "refused rules stops-too-close 2\n");
     Ok(())
 }
@@ -103,9 +171,12 @@ fn files_are_read_in_the_order_of_the_words(rt: HostRuntime) -> Result<(), Fail>
 #[test]
 fn forty_kilometres_are_planned(rt: HostRuntime) -> Result<(), Fail> {
     let alloc = rt.alloc();
-    let line = "\"kind\",\"from\",\"to\",\"value\"\r\nlimit,0,2000,60\r\nlimit,2000,38000,100\r\nlimit,38000,40000,60\r\ngradient,0,15000,30\r\ngradient,15000,25000,-40\r\ngradient,25000,40000,0\r\n";
-    let train = "mass = 4000\ninertia = 4200\na = 4000\nb = 30\nc = 800\ntraction = [[0, 250000], [1500, 250000], [4000, 100000]]\nbrake = [[0, 300000], [4000, 300000]]\n";
-    let service = "place,name,dwell,latest\r\n0,\"Alder\",,\r\n12000,\"Birch\",60,\r\n27000,\"Cedar Halt\",60,\r\n40000,\"Dale\",,2400\r\n";
+    let line =
+        "\"kind\",\"from\",\"to\",\"value\"\r\nlimit,0,2000,60\r\nlimit,2000,38000,100\r\nlimit,38000,40000,60\r\ngradient,0,15000,30\r\ngradient,15000,25000,-40\r\ngradient,25000,40000,0\r\n";
+    let train =
+        "mass = 4000\ninertia = 4200\na = 4000\nb = 30\nc = 800\ntraction = [[0, 250000], [1500, 250000], [4000, 100000]]\nbrake = [[0, 300000], [4000, 300000]]\n";
+    let service =
+        "place,name,dwell,latest\r\n0,\"Alder\",,\r\n12000,\"Birch\",60,\r\n27000,\"Cedar Halt\",60,\r\n40000,\"Dale\",,2400\r\n";
     let got = plan_ended(alloc, line, train, service, &["--step", "200"])?;
     assert_eq!(rt; got.status, 1);
     assert!(rt; got.text.as_str().starts_with("advice 1\ngap open\nenergy "));
