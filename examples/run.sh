@@ -14,5 +14,11 @@ try 4 'advice 1|no drive|' route too_steep.route
 try 3 'refused route range 7|' route bad_limit.route
 try 3 'refused route form 9|' route without_end.route
 try 6 'read fault route|' route absent.route
-try 2 'usage: advice route FILE [--tolerance N]|' route
+try 2 'usage: advice route FILE [--tolerance N]|       advice plan LINE TRAIN SERVICE [--step N] [--tolerance N]|' route
+try 1 'advice 1|gap open|energy 10200000000000|kilojoules 5100|bound 0|phase 0 100 power 0 1000|phase 100 200 brake 1000 0|time 200 40000 50000|speeds 0 1000 0|end|' plan 200m/line.csv 200m/train.toml 200m/service.csv
+try 3 'refused rules stops-too-close 2|' plan 200m/line.csv 200m/train.toml 200m/service.csv --step 200
+try 3 'refused line bad-header|' plan 200m/service.csv 200m/train.toml 200m/service.csv
+try 3 'refused train text|' plan 200m/line.csv 200m/line.csv 200m/service.csv
+try 3 'refused service bad-header|' plan 200m/line.csv 200m/train.toml 200m/line.csv
+try 6 'read fault train|' plan 200m/line.csv absent.toml 200m/service.csv
 exit "$failed"
