@@ -25,18 +25,21 @@ fn put_file(
 }
 
 /// What `plan` leaves over three files with these texts, with these further words.
-fn plan_ended(
+fn plan_ended<'a>(
     alloc: Global,
     line: &str,
     train: &str,
     service: &str,
-    more: &[&str],
+    more: &[&'a str],
 ) -> Result<Ended, AllocError> {
     let mut setting = plain(alloc);
     put_file(alloc, &mut setting.files, "l", line)?;
     put_file(alloc, &mut setting.files, "t", train)?;
     put_file(alloc, &mut setting.files, "s", service)?;
-    let mut words = Vec::from_slice(alloc, &["plan", "l", "t", "s"])?;
+    let mut words: Vec<&'a str> = Vec::new(alloc);
+    for word in ["plan", "l", "t", "s"] {
+        words.push(word)?;
+    }
     for word in more {
         words.push(*word)?;
     }
@@ -82,59 +85,63 @@ fn files_are_joined_and_planned(rt: HostRuntime) -> Result<(), Fail> {
 }
 
 #[test]
-fn files_are_refused_by_their_roles(rt: HostRuntime) -> Result<(), Fail> {
+fn line_files_are_refused_by_their_role(rt: HostRuntime) -> Result<(), Fail> {
     let alloc = rt.alloc();
-    let rising =
-        "mass = 1000\ninertia = 1000\na = 1000\nb = 0\nc = 0\ntraction = [[0, 51000], [500, 50000], [1000, 50001]]\nbrake = [[0, 100000], [1000, 100000]]\n";
-    let cases: [(&str, &str, &str, &str); 8] = [
-        ("", TRAIN, SERVICE, "refused line bad-header\n"),
-        (
-            "kind,from,to,value\n",
-            TRAIN,
-            SERVICE,
-            "refused line no-sections\n",
-        ),
+    let cases: [(&str, &str); 3] = [
+        ("", "refused line bad-header\n"),
+        ("kind,from,to,value\n", "refused line no-sections\n"),
         (
             "kind,from,to,value\nlimit,0,100,36\nlimit,101,200,36\n",
-            TRAIN,
-            SERVICE,
             "refused line gap 2\n",
         ),
+    ];
+    for (line, text) in cases {
+        let got = plan_ended(alloc, line, TRAIN, SERVICE, &[])?;
+        assert_eq!(rt; got.status, 3, "{line}");
+        assert_eq!(rt; got.text.as_str(), text, "{line}");
+    }
+    Ok(())
+}
+
+#[test]
+fn train_files_are_refused_by_their_role(rt: HostRuntime) -> Result<(), Fail> {
+    let alloc = rt.alloc();
+    let cases: [(&str, &str); 2] = [
         (
-            LINE,
-            rising,
-            SERVICE,
+            "mass = 1000\ninertia = 1000\na = 1000\nb = 0\nc = 0\ntraction = [[0, 51000], [500, 50000], [1000, 50001]]\nbrake = [[0, 100000], [1000, 100000]]\n",
             "refused train table-rises traction 3\n",
         ),
+        ("mass = 1.5\n", "refused train wrong-kind mass\n"),
+    ];
+    for (train, text) in cases {
+        let got = plan_ended(alloc, LINE, train, SERVICE, &[])?;
+        assert_eq!(rt; got.status, 3, "{train}");
+        assert_eq!(rt; got.text.as_str(), text, "{train}");
+    }
+    Ok(())
+}
+
+#[test]
+fn service_files_are_refused_by_their_role_or_the_rules(rt: HostRuntime) -> Result<(), Fail> {
+    let alloc = rt.alloc();
+    let cases: [(&str, &str); 3] = [
         (
-            LINE,
-            "mass = 1.5\n",
-            SERVICE,
-            "refused train wrong-kind mass\n",
-        ),
-        (
-            LINE,
-            TRAIN,
             "place,name,dwell,latest\n0,A,,\n200,B,,\n",
             "refused service no-final-latest\n",
         ),
         (
-            LINE,
-            TRAIN,
             "place,name,dwell,latest\n0,A,,\n40,X,20,\n200,B,,50\n",
             "refused rules stops-too-close 2\n",
         ),
         (
-            LINE,
-            TRAIN,
             "place,name,dwell,latest\n0,A,,\n201,B,,50\n",
             "refused rules outside 2\n",
         ),
     ];
-    for (line, train, service, text) in cases {
-        let got = plan_ended(alloc, line, train, service, &[])?;
-        assert_eq!(rt; got.status, 3, "{text}");
-        assert_eq!(rt; got.text.as_str(), text);
+    for (service, text) in cases {
+        let got = plan_ended(alloc, LINE, TRAIN, service, &[])?;
+        assert_eq!(rt; got.status, 3, "{service}");
+        assert_eq!(rt; got.text.as_str(), text, "{service}");
     }
     Ok(())
 }
