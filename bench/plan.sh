@@ -1,12 +1,8 @@
 #!/bin/sh
 # Counts the instructions and the memory of `advice plan` on lines of 40 and of 400 km with a section of each kind for every
-# 100 m, a train of 400 tonnes and a call every 20 km. Needs rt, valgrind, awk and python3.
+# 100 m, a train of 400 tonnes and a call every 20 km. Needs rt, valgrind, awk and /usr/bin/time.
 set -eu
-top=$(cd "$(dirname "$0")/.." && pwd)
-work=$(mktemp -d)
-trap 'rm -rf "$work"' EXIT
-(cd "$top/crates/advice" && rt run -- route data/g.route >/dev/null 2>&1) || true
-advice=$top/crates/advice/out/advice
+. "$(dirname "$0")/program.sh"
 
 line() { # a line of $1 sections of each kind
     awk -v n="$1" 'BEGIN {
@@ -36,8 +32,6 @@ EOT
 for n in 400 4000; do
     line "$n" >"$work/line.csv"
     service "$n" >"$work/service.csv"
-    valgrind --tool=callgrind --callgrind-out-file="$work/$n.out" "$advice" plan "$work/line.csv" "$work/train.toml" "$work/service.csv" >"$work/$n.txt" 2>"$work/$n.log" || true
-    count=$(sed -n 's/.*Collected : //p' "$work/$n.log")
-    memory=$(python3 -c 'import resource,subprocess,sys; subprocess.run(sys.argv[1:],stdout=subprocess.DEVNULL); print(resource.getrusage(resource.RUSAGE_CHILDREN).ru_maxrss)' "$advice" plan "$work/line.csv" "$work/train.toml" "$work/service.csv")
-    echo "$n sections of each kind: $count instructions, $memory kB, $(head -2 "$work/$n.txt" | tail -1), $(wc -c <"$work/line.csv") bytes of line"
+    figures=$(measured plan "$work/line.csv" "$work/train.toml" "$work/service.csv")
+    echo "$n sections of each kind: $figures, $(wc -c <"$work/line.csv") bytes of line"
 done
