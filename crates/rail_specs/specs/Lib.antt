@@ -13,3 +13,7 @@ pub mod Phase
 pub mod Report
 pub mod Plan
 pub mod Grid
+pub mod Cells
+pub mod Chains
+pub mod Prices
+pub mod Links

@@ -1,4 +1,5 @@
-//! The definitions of this repository: what a step, a force table, a drive, its times, its cost and a bound are.
+//! The definitions of this repository: what a step, a force table, a drive, its times and its cost are, and what cells, chains,
+//! prices and a bound are.
 //!
 //! The definitions stand in `specs/` and are listed in words in `docs/DEFINITIONS.md`. This file has the plain
 //! data that they speak of.
@@ -59,6 +60,15 @@ impl Narrow {
             idle_to: 0,
         }
     }
+}
+
+/// An interval of speeds at a point, both ends in it.
+#[derive(Clone, Copy, PartialEq, Eq, Debug)]
+pub struct Cell {
+    /// The least speed, cm/s.
+    pub first: u16,
+    /// The greatest speed, cm/s: at least the least, and at most 12,000.
+    pub last: u16,
 }
 
 /// What a train does over a step. A step has the first of these that fits.
