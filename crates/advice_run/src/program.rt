@@ -24,7 +24,7 @@ const NO_MEMORY: u8 = 8;
 /// - 0: the greatest drive is on time, and the gap between its energy and the bound is within the tolerance;
 /// - 1: the greatest drive is on time, and the gap is wider;
 /// - 2: the words ask for nothing, and the usage is written;
-/// - 3: a file is too long or is refused, at its first fault;
+/// - 3: a file is too long or is refused, at its first fault, or the rules that the files give together are;
 /// - 4: there is no drive;
 /// - 5: there is a drive, and none is on time;
 /// - 6: a file can't be read;

@@ -10,7 +10,8 @@ use Rattle.rail_specs.specs.Rules.{Rules, IsDrive, IsStepKept, IsPassed}
 use Rattle.rail_specs.specs.Times.{IsOnTimeUp, time_up}
 use Rattle.rail_specs.specs.Rules.{no_timing}
 use Rattle.drive_rules.specs.Shaped.{IsShaped}
-use Rattle.drive_rules.specs.Verdict.{first_below, first_of, point_fault, step_rule, step_fault, timing_fault, verdict, Moves, IsKept, Judges}
+use Rattle.rail_specs.specs.First.{first_of}
+use Rattle.drive_rules.specs.Verdict.{first_below, point_fault, step_rule, step_fault, timing_fault, verdict, Moves, IsKept, Judges}
 use Rattle.drive_rules.specs.declared.judge.Rule.{Rule}
 use Rattle.drive_rules.specs.declared.judge.Judged.{Judged}
 use Rattle.drive_rules.specs.declared.judge.Judged.TheVariants.{Kept, Broken}

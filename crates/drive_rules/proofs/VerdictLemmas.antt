@@ -7,7 +7,8 @@ use Rattle.rail_specs.specs.Cost.{int_sum_below}
 use Rattle.std.specs.Prelude.{List, slice_index}
 use Rattle.rail_specs.specs.Rules.{Rules}
 use Rattle.drive_rules.specs.declared.judge.Rule.{Rule}
-use Rattle.drive_rules.specs.Verdict.{first_below, first_of, step_rule, step_fault}
+use Rattle.rail_specs.specs.First.{first_of}
+use Rattle.drive_rules.specs.Verdict.{first_below, step_rule, step_fault}
 
 pub first_below-next : {X : Type 0} (f : ℕ → Option X) (n : ℕ) → first_below f (n + 1) ≡ first_of (first_below f n) (f n)
 first_below-next f n = rw (add-one n) refl

@@ -5,16 +5,12 @@ use Rattle.std.specs.Option.{option_map}
 use Rattle.rail_specs.specs.Rules.{Rules, is_stop, step_at, traction_work, brake_work}
 use Rattle.rail_specs.specs.Times.{time_up}
 use Rattle.rail_specs.specs.Step.{work}
+use Rattle.rail_specs.specs.First.{first_of}
 use Rattle.rail_specs.specs.Rules.{no_timing}
 use Rattle.drive_rules.specs.declared.judge.Rule.{Rule}
 use Rattle.drive_rules.specs.declared.judge.Rule.TheVariants.{Length, Start, Stop, Standing, Limit, Top, Traction, Brake, Late}
 use Rattle.drive_rules.specs.declared.judge.Judged.{Judged}
 use Rattle.drive_rules.specs.declared.judge.Judged.TheVariants.{Kept, Broken}
-
--- the first of two
-abbrev pub first_of : {X : Type 0} → Option X → Option X → Option X
-first_of (Some x) o = Some x
-first_of None o = o
 
 -- the first among f 0 .. f (n - 1)
 abbrev pub first_below : {X : Type 0} → (ℕ → Option X) → ℕ → Option X
@@ -41,12 +37,15 @@ step_rule r i v0 v1 =
     else if nat_lt r.top v0 || nat_lt r.top v1 then Some Top
     else force_rule r i v0 v1
 
+-- the rule that a list of speeds breaks at point k, and the point
 abbrev pub point_fault : Rules → List ℕ → ℕ → Option (Rule × ℕ)
 point_fault r speeds k = option_map (λ rule. (rule, k)) (point_rule r k (slice_index speeds k))
 
+-- the first rule that a list of speeds breaks over step i, and the step
 abbrev pub step_fault : Rules → List ℕ → ℕ → Option (Rule × ℕ)
 step_fault r speeds i = option_map (λ rule. (rule, i)) (step_rule r i (slice_index speeds i) (slice_index speeds (i + 1)))
 
+-- a list of speeds reaches timing point j too late: the rule, and the point
 abbrev pub timing_fault : Rules → List ℕ → ℕ → Option (Rule × ℕ)
 timing_fault r speeds j =
     let t = slice_index_or r.timings j no_timing in
@@ -64,6 +63,7 @@ verdict r speeds =
 abbrev pub Moves : Rules → List ℕ → Type 0
 Moves r speeds = (i : ℕ) → i < length r.steps → 1 ≤ slice_index speeds i + slice_index speeds (i + 1)
 
+-- no rule is broken
 abbrev pub IsKept : Judged → Type 0
 IsKept (Kept total) = Unit {0}
 IsKept (Broken rule place) = ⊥

@@ -70,13 +70,12 @@ fn work_uphill_and_in_the_wind(rt: HostRuntime) {
         c: 5,
         ..LEVEL
     };
-    if let Some(row) = row(hill) {
-        assert_eq!(rt; row.work(0, 1), 11_972_010_000_000);
-    }
-    if let Some(row) = row(wind) {
-        // 10^7 * (20^2 - 10^2) + 100 * (2 * 10^9 + 2000 * 3 * 20 + 5 * (10^2 + 20^2))
-        assert_eq!(rt; row.work(10, 20), 203_012_250_000);
-    }
+    let (Some(uphill), Some(windy)) = (row(hill), row(wind)) else {
+        panic!(rt; "a step with a small drag is refused");
+    };
+    assert_eq!(rt; uphill.work(0, 1), 11_972_010_000_000);
+    // 10^7 * (20^2 - 10^2) + 100 * (2 * 10^9 + 2000 * 3 * 20 + 5 * (10^2 + 20^2))
+    assert_eq!(rt; windy.work(10, 20), 203_012_250_000);
 }
 
 #[test]
