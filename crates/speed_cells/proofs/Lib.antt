@@ -1,0 +1,5 @@
+pub mod Points
+pub mod Halves
+pub mod Splitting
+pub mod Covering
+pub mod Fitting
