@@ -1,0 +1,11 @@
+pub mod BoundLemmas
+pub mod Duality
+pub mod FillLemmas
+pub mod LayoutLemmas
+pub mod LeastLemmas
+pub mod LinkLemmas
+pub mod Orders
+pub mod StartLemmas
+pub mod StepBack
+pub mod TableLemmas
+pub mod TimingLemmas

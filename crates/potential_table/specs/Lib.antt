@@ -1,0 +1,6 @@
+pub mod Bounds
+pub mod Filling
+pub mod Layout
+pub mod PricedLaws
+pub mod Soundness
+pub mod Slopes
