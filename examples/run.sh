@@ -1,24 +1,76 @@
 #!/bin/sh
-# Runs each example and compares what it prints, and its status, with the lines below. Ends with the number that differ.
-here=$(cd "$(dirname "$0")" && pwd)
+# Runs each example and compares its status and what it prints with what is said here. Ends with the number that differ.
+cd "$(dirname "$0")" || exit 1
+got=$(mktemp)
+want=$(mktemp)
+trap 'rm -f "$got" "$want"' EXIT
 failed=0
-try() { # the wanted status, the wanted text with '|' for line ends, and the words
-    want_status=$1; want=$2; shift 2
-    got=$(cd "$here" && "$here/../advice" "$@" 2>/dev/null | tr '\n' '|'); status=$(cd "$here" && "$here/../advice" "$@" >/dev/null 2>&1; echo $?)
-    if [ "$got" = "$want" ] && [ "$status" = "$want_status" ]; then echo "ok   $*"; else echo "DIFF $*: status $status, $got"; failed=$((failed + 1)); fi
+
+try() { # the wanted status; the wanted text, with '|' for line ends, or the file of a long one; and the words
+    case $2 in
+        answers/*) cat "$2" ;;
+        *) printf %s "$2" | tr '|' '\n' ;;
+    esac >"$want"
+    wanted=$1
+    shift 2
+    status=0
+    ../advice "$@" >"$got" || status=$?
+    if [ "$status" = "$wanted" ] && cmp -s "$want" "$got"; then
+        echo "ok   $*"
+    else
+        echo "DIFF $*: status $status, wanted $wanted"
+        diff "$want" "$got"
+        failed=$((failed + 1))
+    fi
 }
-try 1 'advice 1|gap open|energy 10200000000000|kilojoules 5100|bound 0|phase 0 100 power 0 1000|phase 100 200 brake 1000 0|time 200 40000 50000|speeds 0 1000 0|end|' route two_steps.route
+
+# Builds the program where it isn't built yet; without words it answers with the usage.
+../advice >/dev/null || [ $? != 70 ] || exit 70
+
+run_200m='advice 1|gap open|energy 10200000000000|kilojoules 5100|bound 0|phase 0 100 power 0 1000|phase 100 200 brake 1000 0|time 200 40000 50000|speeds 0 1000 0|end|'
+met_200m='advice 1|gap met|energy 10200000000000|kilojoules 5100|bound 0|phase 0 100 power 0 1000|phase 100 200 brake 1000 0|time 200 40000 50000|speeds 0 1000 0|end|'
+usage='usage: advice route FILE [--tolerance N]|       advice plan LINE TRAIN SERVICE [--step N] [--tolerance N]|'
+
+# From one stop to the next: as three files, as one, and with a gap that is let be.
+try 1 "$run_200m" plan 200m/line.csv 200m/train.toml 200m/service.csv
+try 1 "$run_200m" route two_steps.route
+try 0 "$met_200m" route two_steps.route --tolerance 1000
+
+# Downhill all the way: no energy is wanted, so none can be saved, and the gap is met.
 try 0 'advice 1|gap met|energy 0|kilojoules 0|bound 0|phase 0 200 brake 0 0|time 200 43574 50000|speeds 0 918 0|end|' route downhill.route
+
+# Gradients and a restriction, by steps of 500 m; and a line of 40 km with two stops on the way.
+try 1 answers/6km.txt plan 6km/line.csv 6km/train.toml 6km/service.csv --step 500
+try 1 answers/40km.txt plan 40km/line.csv 40km/train.toml 40km/service.csv --step 200
+
+# Several timing points, one of them passed without a stop.
+try 1 answers/6km_timed.txt plan 6km/line.csv 6km/train.toml 6km/timed.csv --step 500
+
+# Late at the second timing point, and late at the end.
+try 5 'advice 1|late 4000 272952 270000|' plan 6km/line.csv 6km/train.toml 6km/late.csv --step 500
 try 5 'advice 1|late 200 40000 39000|' route late.route
+
+# No drive: the hill takes more force than the train has.
+try 4 'advice 1|no drive|' plan 6km/steep.csv 6km/train.toml 6km/service.csv --step 500
 try 4 'advice 1|no drive|' route too_steep.route
-try 3 'refused route range 7|' route bad_limit.route
-try 3 'refused route form 9|' route without_end.route
-try 6 'read fault route|' route absent.route
-try 2 'usage: advice route FILE [--tolerance N]|       advice plan LINE TRAIN SERVICE [--step N] [--tolerance N]|' route
-try 1 'advice 1|gap open|energy 10200000000000|kilojoules 5100|bound 0|phase 0 100 power 0 1000|phase 100 200 brake 1000 0|time 200 40000 50000|speeds 0 1000 0|end|' plan 200m/line.csv 200m/train.toml 200m/service.csv
+
+# A bad file of each kind: a gap between two limits, a force that rises, no latest time at the end, a limit of 0, no end.
+try 3 'refused line gap 2|' plan bad/line.csv 200m/train.toml 200m/service.csv
+try 3 'refused train table-rises traction 3|' plan 200m/line.csv bad/train.toml 200m/service.csv
+try 3 'refused service no-final-latest|' plan 200m/line.csv 200m/train.toml bad/service.csv
+try 3 'refused route range 7|' route bad/limit.route
+try 3 'refused route form 9|' route bad/without_end.route
+
+# Files that are right by themselves, and don't go together: with one step from stop to stop the train can't move.
 try 3 'refused rules stops-too-close 2|' plan 200m/line.csv 200m/train.toml 200m/service.csv --step 200
+
+# Files in each other's place, files that aren't there, and words that ask for nothing.
 try 3 'refused line bad-header|' plan 200m/service.csv 200m/train.toml 200m/service.csv
 try 3 'refused train text|' plan 200m/line.csv 200m/line.csv 200m/service.csv
 try 3 'refused service bad-header|' plan 200m/line.csv 200m/train.toml 200m/line.csv
 try 6 'read fault train|' plan 200m/line.csv absent.toml 200m/service.csv
+try 6 'read fault route|' route absent.route
+try 2 "$usage" route
+try 2 "$usage" plan 200m/line.csv
+
 exit "$failed"
