@@ -3,7 +3,7 @@ use Rattle.std.proofs.Common.{ℕ, zero, suc, ◌≡◌, ◌↔◌, List, Bool, 
 use Rattle.std.specs.Prelude.{ℤ, pos, negsuc, ◌≤ℤ◌, if◌then◌else◌, Result, Ok, Err, IfOk, OnOk}
 use Rattle.std.proofs.lemmas.Int.{ints}
 use Rattle.rail_specs.specs.Rules.{Rules, IsGreatestDrive, timing_at, work_at}
-use Rattle.rail_specs.specs.Times.{IsOnTimeUp, NoneOnTime, IsFirstLate, time_up}
+use Rattle.rail_specs.specs.Times.{IsOnTimeUp, NoneOnTime, IsFirstLate, arrival_up}
 use Rattle.rail_specs.specs.Cost.{traction_cost, int_sum_below, cost_of, IsBound, GapMet}
 use Rattle.rail_specs.specs.Report.{late_text, report_text}
 use Rattle.rail_specs.specs.Plan.{IsPlanAnswer}
@@ -46,7 +46,7 @@ drive_answer r tolerance status text speeds energy met g t e m s x = inr (inr (
 ))
 
 pub late_answer : (r : Rules) (tolerance : ℕ) (text speeds : List ℕ) (j : ℕ) → IsGreatestDrive r speeds → NoneOnTime r → IsFirstLate r speeds j
-    → text ≡ late_text r j (time_up r speeds (timing_at r j).point) → IsPlanAnswer r tolerance 5 text
+    → text ≡ late_text r j (arrival_up r speeds (timing_at r j).point) → IsPlanAnswer r tolerance 5 text
 late_answer r tolerance text speeds j g n f x = inr (inl (
   speeds,
   (

@@ -2,7 +2,7 @@
 
 ghost use Rattle.std.specs.Prelude.{◌≡◌, ◌≤◌, ℕ, List, slice_index, IfOk};
 ghost use Rattle.rail_specs.specs.Rules.{IsDrive, IsGreatestDrive, timing_at};
-ghost use Rattle.rail_specs.specs.Times.{IsOnTimeUp, IsFirstLate, time_up};
+ghost use Rattle.rail_specs.specs.Times.{IsOnTimeUp, IsFirstLate, arrival_up};
 ghost use Rattle.rail_specs.specs.Plan.{IsPlanAnswer};
 
 use crate::answer::Answer;
@@ -38,7 +38,7 @@ fn late_answer(
     requires greatest { IsGreatestDrive rules.now speeds.now }
     requires late { IsFirstLate rules.now speeds.now at.timing }
     requires slower { (d : List ℕ) → IsDrive rules.now d → ((k : ℕ) → slice_index d k ≤ slice_index speeds.now k) → IsOnTimeUp rules.now d → ⊥ }
-    requires arrival { at.arrival ≡ time_up rules.now speeds.now (timing_at rules.now at.timing).point }
+    requires arrival { at.arrival ≡ arrival_up rules.now speeds.now (timing_at rules.now at.timing).point }
     ensures { IfOk result (λ a. IsPlanAnswer rules.now tolerance a.status a.text.items) }
 {
     let _ = speeds;

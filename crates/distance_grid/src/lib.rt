@@ -1,8 +1,8 @@
 //! The places between which a train's speed changes at a constant net force.
 #![tactic(auto)]
 
-pub mod fault;
-pub mod grid;
+mod fault;
+mod grid;
 
 pub use fault::GridFault;
 pub use grid::Grid;

@@ -1,3 +1,4 @@
+//! Grids of marks and steps, and the spans that have none.
 use super::*;
 use std::alloc::Global;
 

@@ -5,7 +5,7 @@
 #![tactic(auto)]
 
 mod lines;
-pub mod phases;
+mod phases;
 mod reports;
 mod short;
 

@@ -1,4 +1,4 @@
-// Lines of texts.
+//! Lines of texts.
 
 ghost use Rattle.std.specs.Prelude.{◌≡◌, ℕ, ◌++◌, ◌∷◌, OnOk};
 ghost use Rattle.rail_specs.specs.Report.{line, spaced, head_line, number_line};

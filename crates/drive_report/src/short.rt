@@ -1,4 +1,4 @@
-// The texts where no drive is on time.
+//! The texts where no drive is on time.
 
 ghost use Rattle.std.specs.Prelude.{◌≡◌, ℕ, ◌<◌, ◌++◌, length, IfOk, OnOk};
 ghost use Rattle.rail_specs.specs.Report.{no_drive_text as text_of_no_drive, late_line, late_text as text_of_late};

@@ -7,7 +7,7 @@ use Rattle.std.proofs.lemmas.Bool.{cases_eq}
 use Rattle.std.proofs.lemmas.Bool.Decides.{nat_tests}
 use Rattle.std.proofs.lemmas.List.{get_or_default}
 use Rattle.rail_specs.specs.Rules.{Rules, IsDrive, IsStepKept, IsPassed}
-use Rattle.rail_specs.specs.Times.{IsOnTimeUp, time_up}
+use Rattle.rail_specs.specs.Times.{IsOnTimeUp, arrival_up}
 use Rattle.rail_specs.specs.Rules.{no_timing}
 use Rattle.drive_rules.specs.Shaped.{IsShaped}
 use Rattle.rail_specs.specs.First.{first_of}
@@ -64,7 +64,7 @@ pub kept_step : (r : Rules) (speeds : List ℕ) (i : ℕ) → IsStepKept r i (sl
 kept_step r speeds i h = grind (arith, nat_tests, ints)
 
 -- a timing point
-timing_kept : (r : Rules) (speeds : List ℕ) (j : ℕ) → timing_fault r speeds j ≡ None → pos (time_up r speeds (get_or r.timings j no_timing).point) ≤ℤ (get_or r.timings j no_timing).latest
+timing_kept : (r : Rules) (speeds : List ℕ) (j : ℕ) → timing_fault r speeds j ≡ None → pos (arrival_up r speeds (get_or r.timings j no_timing).point) ≤ℤ (get_or r.timings j no_timing).latest
 timing_kept r speeds j h = grind (arith, ints)
 
 pub timely : (r : Rules) (speeds : List ℕ) → first_below (timing_fault r speeds) (length r.timings) ≡ None → IsOnTimeUp r speeds

@@ -4,7 +4,7 @@ use Rattle.std.specs.Prelude.{slice_index}
 use Rattle.std.proofs.lemmas.Int.{ints}
 use Rattle.rail_specs.specs.Step.{upper_time}
 use Rattle.rail_specs.specs.Rules.{Rules, IsDrive, step_at, timing_at, no_timing}
-use Rattle.rail_specs.specs.Times.{sum_below, time_up, IsOnTimeUp, IsFirstLate}
+use Rattle.rail_specs.specs.Times.{sum_below, arrival_up, IsOnTimeUp, IsFirstLate}
 use Rattle.drive_rules.specs.Shaped.{IsShaped}
 use Rattle.drive_rules.proofs.DriveLemmas.{moves_of_drive}
 
@@ -17,7 +17,7 @@ sum_below-le f g zero h = omega arith
 sum_below-le f g (suc n) h = omega (arith, sum_below-le f g n (λ i l. h i (omega arith)), h n (omega arith))
 
 time_of_slower : (r : Rules) (d speeds : List ℕ) (k : ℕ) → Falls → IsShaped r → IsDrive r d → ((i : ℕ) → slice_index d i ≤ slice_index speeds i) → k ≤ length r.steps
-    → time_up r speeds k ≤ time_up r d k
+    → arrival_up r speeds k ≤ arrival_up r d k
 time_of_slower r d speeds k fall s e slow l =
     sum_below-le
     (λ i. slice_index r.dwells i + upper_time (step_at r i).metres (slice_index speeds i) (slice_index speeds (i + 1)))

@@ -3,7 +3,7 @@ use Rattle.std.specs.Prelude.{ℕ, suc, zero, ◌+◌, ◌≡◌, ◌<◌, ◌�
 use Rattle.std.specs.Int.RustNames.{int_lt, unsigned_abs}
 use Rattle.std.specs.Option.{option_map}
 use Rattle.rail_specs.specs.Rules.{Rules, is_stop, step_at, traction_work, brake_work}
-use Rattle.rail_specs.specs.Times.{time_up}
+use Rattle.rail_specs.specs.Times.{arrival_up}
 use Rattle.rail_specs.specs.Step.{work}
 use Rattle.rail_specs.specs.First.{first_of}
 use Rattle.rail_specs.specs.Rules.{no_timing}
@@ -49,7 +49,7 @@ step_fault r speeds i = option_map (λ rule. (rule, i)) (step_rule r i (slice_in
 abbrev pub timing_fault : Rules → List ℕ → ℕ → Option (Rule × ℕ)
 timing_fault r speeds j =
     let t = slice_index_or r.timings j no_timing in
-    if int_lt t.latest (pos (time_up r speeds t.point)) then Some (Late, t.point) else None
+    if int_lt t.latest (pos (arrival_up r speeds t.point)) then Some (Late, t.point) else None
 
 -- the first rule that the speeds break, and where
 abbrev pub verdict : Rules → List ℕ → Option (Rule × ℕ)

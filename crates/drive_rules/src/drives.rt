@@ -1,7 +1,7 @@
 //! What is known of drives: their speeds, and whether they are late.
 ghost use Rattle.std.specs.Prelude.{◌≡◌, ℕ, ◌+◌, ◌-◌, ◌*◌, ◌<◌, ◌≤◌, pos, IfSome, IfNone, List, length, slice_index};
 ghost use Rattle.rail_specs.specs.Rules.{IsDrive, timing_at};
-ghost use Rattle.rail_specs.specs.Times.{time_up as arrival_of, IsOnTimeUp, IsFirstLate};
+ghost use Rattle.rail_specs.specs.Times.{arrival_up, IsOnTimeUp, IsFirstLate};
 
 use crate::rules::Rules;
 use step_time_bounds::times_fall;
@@ -36,7 +36,7 @@ impl Rules {
         ensures late { IfSome result (λ at. IsFirstLate self.now speeds.now at.timing) }
         // No drive that is nowhere faster is on time either.
         ensures slower { IfSome result (λ at. (d : List ℕ) → IsDrive self.now d → ((k : ℕ) → slice_index d k ≤ slice_index speeds.now k) → IsOnTimeUp self.now d → ⊥) }
-        ensures arrival { IfSome result (λ at. at.arrival ≡ arrival_of self.now speeds.now (timing_at self.now at.timing).point) }
+        ensures arrival { IfSome result (λ at. at.arrival ≡ arrival_up self.now speeds.now (timing_at self.now at.timing).point) }
     {
         self.known();
         times_fall();

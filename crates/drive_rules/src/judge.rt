@@ -2,7 +2,7 @@
 ghost use Rattle.std.specs.Prelude.{◌≡◌, ℕ, ◌+◌, ◌-◌, ◌*◌, ◌<◌, ◌≤◌, ◌↔◌, ◌^◌, ℤ, pos, length, slice_index, MatchResult, IfOk, IfErr, None, Some};
 ghost use Rattle.std.specs.Int.RustNames.{unsigned_abs};
 ghost use Rattle.rail_specs.specs.Rules.{IsDrive, step_at};
-ghost use Rattle.rail_specs.specs.Times.{time_up as arrival_of, IsOnTimeUp};
+ghost use Rattle.rail_specs.specs.Times.{arrival_up, IsOnTimeUp};
 ghost use Rattle.rail_specs.specs.Cost.{cost_of};
 ghost use Rattle.rail_specs.specs.Step.{work};
 ghost use Rattle.drive_rules.specs.Verdict.{point_rule, step_rule, first_below, point_fault, step_fault, timing_fault, verdict, Judges, IsKept, CostsAtMost, Moves};
@@ -110,9 +110,9 @@ impl Rules {
         requires moving { Moves self.now speeds.now }
         requires forward { from ≤ to }
         requires within { to ≤ length self.now.steps }
-        requires known { time ≡ arrival_of self.now speeds.now from }
+        requires known { time ≡ arrival_up self.now speeds.now from }
         requires early { time ≤ 210000000 * from }
-        ensures value { result ≡ arrival_of self.now speeds.now to }
+        ensures value { result ≡ arrival_up self.now speeds.now to }
         ensures early { result ≤ 210000000 * to }
     {
         let rows = self.parts.rows.as_slice();
@@ -183,7 +183,7 @@ impl Rules {
     pub fn arrival(&self, speeds: &[u16], k: usize) -> u64
         requires drive { IsDrive self.now speeds.now }
         requires point { k ≤ length self.now.steps }
-        ensures value { result ≡ arrival_of self.now speeds.now k }
+        ensures value { result ≡ arrival_up self.now speeds.now k }
         ensures early { result ≤ 210000000 * k }
     {
         self.known();

@@ -19,54 +19,8 @@ pub struct Stretch {
     pub limit: u16,
 }
 
-/// Stretches in any order. Contracts see the list.
-#[derive(Drop)]
-pub struct StretchList {
-    items: Vec<Stretch>,
-}
-
-impl Model for StretchList {
-    ghost use Rattle.std.specs.Prelude.{List};
-    ghost use Rattle.drive_rules.specs.declared.setup.Stretch.{Stretch};
-
-    ghost Value = { List Stretch };
-
-    ghost view = { λ s. s.items.items };
-}
-
-impl StretchList {
-    /// An empty list, which takes no memory.
-    pub fn new(alloc: Global) -> StretchList
-        ensures { result ≡ [] }
-    {
-        StretchList {
-            items: Vec::new(alloc),
-        }
-    }
-
-    /// The items in order.
-    pub fn items(&self) -> &[Stretch]
-        ensures { result.now ≡ self.now }
-    {
-        self.items.as_slice()
-    }
-
-    /// Puts another item in the place of one.
-    pub fn set(&mut self, i: usize, item: Stretch)
-        requires { i < length self.old }
-        ensures { self.new ≡ slice_set self.old i item }
-    {
-        self.items[i] = item;
-    }
-
-    /// Appends an item, or leaves the list as it was where there is no memory.
-    pub fn push(&mut self, item: Stretch) -> Result<(), AllocError>
-        ensures { self.new ≡ (if is_ok result then self.old ++ item ∷ [] else self.old) }
-    {
-        self.items.push(item)?;
-        Ok(())
-    }
-}
+/// Stretches in any order.
+pub type StretchList = ItemList<Stretch>;
 
 /// From where, and how, a train goes on.
 #[derive(Drop)]

@@ -1,4 +1,4 @@
-// Counts of faults by name.
+//! Counts of faults by name.
 
 ghost use Rattle.std.specs.Prelude.{◌≡◌, ℕ, List, IsTrue, OnOk, if◌then◌else◌};
 ghost use Rattle.std.specs.Str.{bytes_eq};

@@ -4,8 +4,8 @@
 //! in that very call, so that whoever asks can see whose fault it was.
 #![tactic(auto)]
 
-mod calls;
 mod counts;
+mod failing_calls;
 mod file_shelf;
 mod memory_shelf;
 mod memory_sink;

@@ -1,4 +1,4 @@
-// Files in memory.
+//! Files in memory.
 
 ghost use Rattle.std.specs.Prelude.{◌≡◌, ◌≢◌, ◌≤◌, ◌+◌, ℕ, List, IfOk, Some, None, option_map, take};
 ghost use Rattle.rail_specs.specs.Faults.{Fetches, Rose};
@@ -6,8 +6,8 @@ ghost use Rattle.edge_io.specs.Counts.{count_in, raised};
 ghost use Rattle.edge_io.specs.Memory.{counted, file_of, next_file};
 ghost use Rattle.edge_io.specs.Named.{named};
 
-use crate::calls::fails_next;
 use crate::counts::Counts;
+use crate::failing_calls::fails_next;
 use crate::shelf::{FetchFault, Shelf};
 use std::alloc::Global;
 use std::marker::Model;
@@ -114,46 +114,4 @@ impl Shelf for MemoryShelf {
 }
 
 #[cfg(test)]
-mod tests {
-    use super::*;
-    use std::alloc::AllocError;
-    use std::test::Fail;
-
-    /// A shelf with two files of one name and another file.
-    fn shelf_of(alloc: Global, fails: &[u32]) -> Result<MemoryShelf, AllocError> {
-        let mut files = Vec::new(alloc);
-        for (name, text) in [("a", "first"), ("a", "second"), ("b", "other")] {
-            let name = String::from_str(alloc, name)?;
-            files.push((name, text.as_bytes().to_vec(alloc)?))?;
-        }
-        Ok(MemoryShelf::new(alloc, files, fails.to_vec(alloc)?))
-    }
-
-    /// Fetches through the trait.
-    fn fetch<S: Shelf>(alloc: Global, shelf: &mut S, name: &str) -> Result<Vec<u8>, FetchFault> {
-        shelf.fetch(alloc, name, 4)
-    }
-
-    #[test]
-    fn files_are_fetched(rt: HostRuntime) -> Result<(), Fail> {
-        let alloc = rt.alloc();
-        let mut shelf = shelf_of(alloc, &[2, 4])?;
-        let calls = [
-            ("a", Ok("firs")),
-            ("a", Err(FetchFault::Failed)),
-            ("b", Ok("othe")),
-            ("b", Err(FetchFault::Failed)),
-            ("c", Err(FetchFault::Failed)),
-            ("b", Ok("othe")),
-        ];
-        for (name, answer) in calls {
-            match (fetch(alloc, &mut shelf, name), answer) {
-                (Ok(bytes), Ok(text)) => assert_eq!(rt; bytes.as_slice(), text.as_bytes()),
-                (bytes, text) => assert_eq!(rt; bytes.err(), text.err()),
-            }
-        }
-        assert_eq!(rt; shelf.fetch(alloc, "a", 100), Ok(b"first".to_vec(alloc)?));
-        assert_eq!(rt; shelf.fetch(alloc, "a", 0), Ok(Vec::new(alloc)));
-        Ok(())
-    }
-}
+mod tests;

@@ -1,10 +1,10 @@
-// Bytes put to memory.
+//! Bytes put to memory.
 
 ghost use Rattle.std.specs.Prelude.{◌≡◌, ◌≤◌, ◌<◌, ◌+◌, ℕ, List, [], Some, IfOk, IsErr, MatchOption, OnErr, min, length};
 ghost use Rattle.rail_specs.specs.Faults.{HasCause, Puts};
 ghost use Rattle.edge_io.specs.Memory.{after_put, next_count};
 
-use crate::calls::fails_next;
+use crate::failing_calls::fails_next;
 use crate::sink::{Failed, Sink};
 use std::alloc::{AllocError, Global};
 use std::marker::Model;
@@ -97,33 +97,4 @@ impl Sink for MemorySink {
 }
 
 #[cfg(test)]
-mod tests {
-    use super::*;
-    use crate::sink::put_all;
-    use std::test::Fail;
-
-    #[test]
-    fn pieces_are_put(rt: HostRuntime) -> Result<(), Fail> {
-        let alloc = rt.alloc();
-        let mut sink = MemorySink::new(alloc, 4, 10, [3].to_vec(alloc)?)?;
-        assert_eq!(rt; sink.put(b""), Ok(0));
-        assert_eq!(rt; sink.put(b"abcdef"), Ok(4));
-        assert_eq!(rt; sink.put(b"ef"), Ok(2));
-        assert_eq!(rt; sink.put(b"g"), Err(Failed));
-        assert_eq!(rt; put_all(&mut sink, b"ghijklm"), Err(Failed));
-        assert_eq!(rt; sink.bytes(), b"abcdefghij".as_slice());
-        assert_eq!(rt; sink.put(b""), Ok(0));
-        Ok(())
-    }
-
-    #[test]
-    fn whole_texts_are_put(rt: HostRuntime) -> Result<(), Fail> {
-        let alloc = rt.alloc();
-        let mut sink = MemorySink::new(alloc, 10, 100, [2].to_vec(alloc)?)?;
-        assert_eq!(rt; put_all(&mut sink, b"advice 1\ngap open\n"), Err(Failed));
-        assert_eq!(rt; sink.bytes(), b"advice 1\ng".as_slice());
-        assert_eq!(rt; put_all(&mut sink, b"ap open\n"), Ok(()));
-        assert_eq!(rt; sink.bytes(), b"advice 1\ngap open\n".as_slice());
-        Ok(())
-    }
-}
+mod tests;

@@ -1,4 +1,4 @@
-// Bytes put to a stream of the system.
+//! Bytes put to a stream of the system.
 
 ghost use Rattle.std.specs.Prelude.{◌≡◌, ◌≢◌, ◌≤◌, ◌<◌, ℕ, None, Ok, IfOk, length};
 ghost use Rattle.rail_specs.specs.Faults.{HasCause};
@@ -75,23 +75,4 @@ impl<W: Write + Drop> Sink for OutSink<W> {
 }
 
 #[cfg(test)]
-mod tests {
-    use super::*;
-    use crate::sink::put_all;
-    use std::fs::OpenOptions;
-    use std::io;
-    use std::test::Fail;
-
-    #[test]
-    fn streams_take_bytes(rt: HostRuntime) -> Result<(), Fail> {
-        let mut out = OutSink::new(io::writer(&rt));
-        assert_eq!(rt; out.put(b""), Ok(0));
-        assert_eq!(rt; put_all(&mut out, b"a line of a test\n"), Ok(()));
-        let full = OpenOptions::new().write(true).open(&rt, "/dev/full")?;
-        let mut full = OutSink::new(full);
-        assert_eq!(rt; full.put(b""), Ok(0));
-        assert_eq!(rt; full.put(b"no room"), Err(Failed));
-        assert_eq!(rt; put_all(&mut full, b"no room"), Err(Failed));
-        Ok(())
-    }
-}
+mod tests;

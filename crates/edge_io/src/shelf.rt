@@ -1,4 +1,4 @@
-// Files by name.
+//! Files by name.
 
 ghost use Rattle.std.specs.Prelude.{◌≡◌, ◌≢◌, ◌≤◌, ℕ, List, IfOk};
 ghost use Rattle.rail_specs.specs.Faults.{Fetches, Rose, Told};

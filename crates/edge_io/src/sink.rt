@@ -1,4 +1,4 @@
-// Bytes that are put.
+//! Bytes that are put.
 
 ghost use Rattle.std.specs.Prelude.{◌≡◌, ◌≤◌, ℕ, List, Option, IfOk, OnOk, OnErr, take, length};
 ghost use Rattle.rail_specs.specs.Faults.{Appends, HasCause, Puts};

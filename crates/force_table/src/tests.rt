@@ -1,3 +1,4 @@
+//! Tables of rows, and the rows that are none.
 use super::*;
 
 #[test]

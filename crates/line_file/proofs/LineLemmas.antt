@@ -4,8 +4,7 @@ use Rattle.std.specs.Option.{option_or}
 use Rattle.std.proofs.lemmas.List.{length-take-le}
 use Rattle.std.proofs.lemmas.List.Elements.{filter_map-append}
 use Rattle.line_file.specs.Rows.{Fields}
-use Rattle.line_file.specs.Adding.{with_row}
-use Rattle.line_file.specs.LineText.{below_header, gradient_in, limit_in, line_from, row_fault, row_of, rows_fault, unless, whole_fault}
+use Rattle.line_file.specs.LineText.{below_header, gradient_in, limit_in, line_from, row_fault, row_of, rows_fault, unless, whole_fault, with_row}
 use Rattle.line_file.specs.declared.line.Line.{Line}
 use Rattle.line_file.specs.declared.line.LineFault.{LineFault}
 use Rattle.line_file.proofs.Taking.{take-none, take-one}

@@ -3,12 +3,11 @@ use Rattle.std.proofs.Common.{◌≡◌, ◌<◌, ◌≤◌, ◌+◌, ◌-◌, �
 use Rattle.std.proofs.lemmas.Int.{ints}
 use Rattle.std.proofs.lemmas.Bool.{cases_lt}
 use Rattle.std.proofs.lemmas.Bool.Decides.{nat_tests}
-use Rattle.line_file.specs.LineText.{are_some, by_kind, checked_row, fault_of, first_from, follows, is_in_range, kind_of, last_to, line_from, numbers_of, no_section, row_fault, row_from, row_of, whole_fault}
+use Rattle.line_file.specs.LineText.{are_some, by_kind, checked_row, fault_of, first_from, follows, is_in_range, kind_of, last_to, line_from, numbers_of, no_section, row_fault, row_from, row_of, whole_fault, with_row}
 use Rattle.line_file.specs.Shape.{AreSections, IsLine, IsSection, section_at}
 use Rattle.std.proofs.Math.ListN.{get_or-append}
 use Rattle.std.proofs.lemmas.List.{append-nil}
 use Rattle.std.proofs.Math.Seq.{get_or-append_seam}
-use Rattle.line_file.specs.Adding.{with_row}
 use Rattle.line_file.specs.declared.line.Line.{Line}
 use Rattle.line_file.specs.Rows.{Fields, field_of}
 use Rattle.line_file.specs.declared.sections.Section.{Section}

@@ -5,8 +5,7 @@ use Rattle.std.specs.Result.{result_ok}
 use Rattle.std.proofs.lemmas.List.{length-take-le}
 use Rattle.std.proofs.lemmas.List.Elements.{filter_map-append}
 use Rattle.line_file.specs.Rows.{Fields}
-use Rattle.line_file.specs.Serving.{with_row}
-use Rattle.line_file.specs.ServiceText.{below_header, call_of, row_fault, rows_fault, service_from, unless, whole_fault}
+use Rattle.line_file.specs.ServiceText.{below_header, call_of, row_fault, rows_fault, service_from, unless, whole_fault, with_row}
 use Rattle.line_file.specs.declared.service.Service.{Service}
 use Rattle.line_file.specs.declared.service.ServiceFault.{ServiceFault}
 use Rattle.line_file.proofs.Taking.{take-none, take-one}

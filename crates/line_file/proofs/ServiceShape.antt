@@ -7,8 +7,7 @@ use Rattle.std.proofs.lemmas.Bool.Decides.{nat_tests}
 use Rattle.std.proofs.Math.ListN.{get_or-append}
 use Rattle.std.proofs.Math.Seq.{get_or-append_seam}
 use Rattle.line_file.specs.Rows.{Fields}
-use Rattle.line_file.specs.Serving.{with_row}
-use Rattle.line_file.specs.ServiceText.{are_seconds, call_from, call_of, checked_call, fault_of, is_in_range, last_call, latest_count, no_call, numbers_of, rises, row_fault, service_from, whole_fault}
+use Rattle.line_file.specs.ServiceText.{are_seconds, call_from, call_of, checked_call, fault_of, is_in_range, last_call, latest_count, no_call, numbers_of, rises, row_fault, service_from, whole_fault, with_row}
 use Rattle.line_file.specs.Shape.{AreCalls, IsCall, IsService, call_at}
 use Rattle.line_file.specs.declared.calls.Call.{Call}
 use Rattle.line_file.specs.declared.service.Service.{Service}

@@ -1,7 +1,7 @@
 -- What a line file says, or why a text is none.
 use Rattle.std.specs.Prelude.{◌==◌, ◌&&◌, ◌||◌, ◌+◌, ◌-◌, ◌*◌, ◌/◌, ◌++◌, ◌∷◌, Bool, ℕ, ℤ, pos, negsuc, List, [], Option, Some, None, Result, Ok, Err, if◌then◌else◌, length, nat_lt, not, codes, slice_index_or}
 use Rattle.std.specs.Int.RustNames.{int_le, int_lt, unsigned_abs}
-use Rattle.std.specs.List.{filter_map}
+use Rattle.std.specs.List.{cons_option, filter_map}
 use Rattle.std.specs.Option.{option_or}
 use Rattle.std.specs.Str.{bytes_eq}
 use Rattle.rail_specs.specs.Numbers.{number_of, trimmed}
@@ -86,6 +86,13 @@ abbrev pub line_from : List Fields → Line
 line_from rows = record {
   limits = filter_map (λ r. limit_in (row_of r)) rows;
   gradients = filter_map (λ r. gradient_in (row_of r)) rows;
+}
+
+-- a line with the section of one more row
+abbrev pub with_row : Line → Result LineRow RowFault → Line
+with_row line row = record {
+  limits = line.limits ++ cons_option (limit_in row) [];
+  gradients = line.gradients ++ cons_option (gradient_in row) [];
 }
 
 -- what stands in place of a section that is not there

@@ -1,7 +1,7 @@
 -- What a service file says, or why a text is none.
 use Rattle.std.specs.Prelude.{◌==◌, ◌&&◌, ◌||◌, ◌+◌, ◌-◌, ◌++◌, ◌∷◌, Bool, true, ℕ, ℤ, pos, List, [], Option, Some, None, option_map, is_some, Result, Ok, Err, if◌then◌else◌, count_by, drop, length, nat_lt, not, codes, slice_index_or}
 use Rattle.std.specs.Int.RustNames.{int_le, unsigned_abs}
-use Rattle.std.specs.List.{filter_map}
+use Rattle.std.specs.List.{cons_option, filter_map}
 use Rattle.std.specs.Option.{option_or}
 use Rattle.std.specs.Result.{result_ok}
 use Rattle.rail_specs.specs.Numbers.{number_of, trimmed}
@@ -58,6 +58,10 @@ call_of fields = checked_call (numbers_of fields)
 -- the service of rows: their calls, in order
 abbrev pub service_from : List Fields → Service
 service_from rows = record { calls = filter_map (λ r. result_ok (call_of r)) rows }
+
+-- a service with the call of one more row
+abbrev pub with_row : Service → Result Call CallFault → Service
+with_row service row = record { calls = service.calls ++ cons_option (result_ok row) [] }
 
 -- what stands in place of a call that is not there
 abbrev pub no_call : Call

@@ -1,4 +1,4 @@
-// The rows of a text of comma-separated fields, one by one.
+//! The rows of a text of comma-separated fields, one by one.
 
 ghost use Rattle.std.specs.Prelude.{◌≡◌, ℕ, IfOk};
 ghost use Rattle.csv.specs.Records.{fields_of};

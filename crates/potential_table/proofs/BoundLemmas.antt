@@ -10,7 +10,7 @@ use Rattle.rail_specs.specs.declared.Cell.{Cell}
 use Rattle.rail_specs.specs.declared.Timing.{Timing}
 use Rattle.rail_specs.specs.Step.{lower_time}
 use Rattle.rail_specs.specs.Rules.{Rules, step_at, work_at, timing_at, no_timing, IsDrive}
-use Rattle.rail_specs.specs.Times.{sum_below, time_down, slack_of, IsOnTimeDown}
+use Rattle.rail_specs.specs.Times.{sum_below, arrival_down, slack_of, IsOnTimeDown}
 use Rattle.rail_specs.specs.Cost.{int_sum_below, cost_of, IsBound}
 use Rattle.rail_specs.specs.Cells.{cells_of, cell_at, HasSpeed, CellsCover}
 use Rattle.rail_specs.specs.Chains.{IsAtMost, cost_along, values_of, value_at, WeakDuality}
@@ -116,7 +116,7 @@ point_is r p j a l = rw a (get_or-map (λ (t : Timing). t.point) r.timings j no_
 -- a drive that is on time keeps the slack of each timing point
 slack_kept : (r : Rules) (d : List ℕ) (j : ℕ) → IsOnTimeDown r d → j < length r.timings → pos (sum_below (step_time r d) (timing_at r j).point) ≤ℤ slack_of r j
 slack_kept r d j t l =
-    let on_time : pos (time_down r d (timing_at r j).point) ≤ℤ (timing_at r j).latest = t j no_timing l in
+    let on_time : pos (arrival_down r d (timing_at r j).point) ≤ℤ (timing_at r j).latest = t j no_timing l in
     let parts = sum-apart (slice_index r.dwells) (step_time r d) (timing_at r j).point in
     omega (arith, ints, on_time, parts)
 

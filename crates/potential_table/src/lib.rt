@@ -4,13 +4,13 @@
 //! the costs of a run's steps with their times priced. `bound` is what the two give: no drive on time costs less (weak duality).
 #![tactic(auto)]
 
-pub mod least;
+mod least;
 mod links;
-pub mod lower_bound;
-pub mod priced;
+mod lower_bound;
+mod priced;
 mod sums;
-pub mod table;
-pub mod timing_prices;
+mod table;
+mod timing_prices;
 
 pub use least::potentials;
 pub use lower_bound::bound;

@@ -1,4 +1,4 @@
-// Whether a bound is near enough to an energy.
+//! Whether a bound is near enough to an energy.
 
 ghost use Rattle.std.specs.Prelude.{◌≡◌, ℕ, ◌≤◌, ◌^◌, ◌↔◌, pos, ◌*ℤ◌, IsTrue};
 ghost use Rattle.std.specs.Int.RustNames.{unsigned_abs};

@@ -1,8 +1,9 @@
-// Numbers as texts.
+//! Numbers as texts.
 
-ghost use Rattle.std.specs.Prelude.{◌≡◌, ◌≤◌, ◌<◌, ◌^◌, ◌++◌, ℕ, pos, ◌≤ℤ◌, ◌<ℤ◌, IfSome, option_map, is_ok, if◌then◌else◌};
+ghost use Rattle.std.specs.Prelude.{◌≡◌, ◌≤◌, ◌<◌, ◌^◌, ◌++◌, ℕ, pos, ◌≤ℤ◌, ◌<ℤ◌, Some, None, IfSome, option_map, is_ok, if◌then◌else◌};
 ghost use Rattle.std.specs.Fmt.{signed_decimal};
-ghost use Rattle.rail_specs.specs.Numbers.{after_spaces, before_spaces, trimmed, digits_number, field_number, count_number, number_of};
+ghost use Rattle.std.specs.Int.RustNames.{unsigned_abs};
+ghost use Rattle.rail_specs.specs.Numbers.{after_spaces, before_spaces, trimmed, digits_number, field_number, count_number, number_of, is_within};
 
 use itoa::Buffer;
 use std::alloc::{AllocError, Global};
@@ -102,6 +103,19 @@ pub fn read_number(text: &[u8]) -> Option<i64>
     }
 }
 
+/// A number as one without a sign, where it is from `low` to `high`.
+pub fn natural_within(number: i64, low: u32, high: u32) -> Option<u32>
+    ensures value { result ≡ (if is_within (pos low) (pos high) number then Some (unsigned_abs number) else None) }
+    ensures least { IfSome result (λ n. low ≤ n) }
+    ensures most { IfSome result (λ n. n ≤ high) }
+{
+    if i64::from(low) <= number && number <= i64::from(high) {
+        Some(number as u32)
+    } else {
+        None
+    }
+}
+
 /// Appends the shortest decimal spelling of a number, or leaves the text as it was where there is no memory.
 pub fn put_number(_alloc: Global, out: &mut Vec<u8>, n: i128) -> Result<(), AllocError>
     ensures { out.new.items ≡ (if is_ok result then out.old.items ++ signed_decimal n else out.old.items) }
@@ -111,66 +125,4 @@ pub fn put_number(_alloc: Global, out: &mut Vec<u8>, n: i128) -> Result<(), Allo
 }
 
 #[cfg(test)]
-mod tests {
-    use super::*;
-    use std::test::Fail;
-
-    #[test]
-    fn numbers_are_read(rt: HostRuntime) -> Result<(), Fail> {
-        let numbers: [(&[u8], i64); 8] = [
-            (b"0", 0),
-            (b"-0", 0),
-            (b"+7", 7),
-            (b"  12 ", 12),
-            (b"007", 7),
-            (b" -1000", -1000),
-            (b"999999999999999999", 999_999_999_999_999_999),
-            (b"-999999999999999999", -999_999_999_999_999_999),
-        ];
-        for (text, number) in numbers {
-            assert_eq!(rt; read_number(text), Some(number));
-        }
-        let others: [&[u8]; 9] = [
-            b"",
-            b" ",
-            b"-",
-            b"+",
-            b"+-1",
-            b"1 2",
-            b"1.5",
-            b"\t1",
-            b"1000000000000000000",
-        ];
-        for text in others {
-            assert_eq!(rt; read_number(text), None);
-        }
-        Ok(())
-    }
-
-    #[test]
-    fn fields_are_read(rt: HostRuntime) -> Result<(), Fail> {
-        assert_eq!(rt; read_field(b"-600"), Some(-600));
-        assert_eq!(rt; read_field(b"0010"), Some(10));
-        assert_eq!(rt; read_field(b"+1"), None);
-        assert_eq!(rt; read_field(b" 1"), None);
-        assert_eq!(rt; read_field(b"--1"), None);
-        assert_eq!(rt; read_count(b"999999999"), Some(999_999_999));
-        assert_eq!(rt; read_count(b"0000000001"), None);
-        assert_eq!(rt; read_count(b"-1"), None);
-        assert_eq!(rt; read_digits(b"4294967295", 10), Some(4_294_967_295));
-        Ok(())
-    }
-
-    #[test]
-    fn numbers_are_put(rt: HostRuntime) -> Result<(), Fail> {
-        let mut text = Vec::new(rt.alloc());
-        put_number(rt.alloc(), &mut text, 6_600_000_000_000)?;
-        put_number(rt.alloc(), &mut text, -50)?;
-        put_number(rt.alloc(), &mut text, i128::MIN)?;
-        assert_eq!(rt;
-            text.as_slice(),
-            b"6600000000000-50-170141183460469231731687303715884105728".as_slice()
-        );
-        Ok(())
-    }
-}
+mod tests;

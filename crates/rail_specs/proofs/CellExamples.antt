@@ -1,5 +1,5 @@
 -- Cells, links and prices, computed on worked numbers.
-use Rattle.std.specs.Prelude.{◌≡◌, ◌+◌, ℕ, ℤ, pos, List, [], ◌∷◌, Option, Some, None, true, false, replicate}
+use Rattle.std.specs.Prelude.{◌≡◌, ℕ, pos, [], ◌∷◌, Some, None, true, false, replicate}
 use Rattle.std.proofs.Common.{refl}
 use Rattle.rail_specs.specs.declared.StepNumbers.{StepNumbers}
 use Rattle.rail_specs.specs.declared.Cell.{Cell}

@@ -12,11 +12,7 @@ a_step = record { metres = 100; gradient = negsuc 9; limit = 1000 }
 
 -- lines that end with a carriage return and a line feed, leading zeros, and a last line without its end
 accepted : route_of (heading ++ codes "step 0100 -10 1000\r\nstep 100 -010 1000\nend") ≡ Ok (record {
-  mass = 1000;
-  inertia = 1000;
-  a = 1000;
-  b = 0;
-  c = 0;
+  train = record { mass = 1000; inertia = 1000; a = 1000; b = 0; c = 0 };
   top = 3;
   traction = 51000;
   brake = 100000;

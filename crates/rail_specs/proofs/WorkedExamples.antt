@@ -5,7 +5,7 @@ use Rattle.rail_specs.specs.declared.StepNumbers.{StepNumbers}
 use Rattle.rail_specs.specs.Step.{work, work_up, work_down, lower_time, upper_time}
 use Rattle.rail_specs.specs.Table.{force, top_speed}
 use Rattle.rail_specs.specs.Rules.{Rules}
-use Rattle.rail_specs.specs.Times.{time_up, time_down, slack_of}
+use Rattle.rail_specs.specs.Times.{arrival_up, arrival_down, slack_of}
 use Rattle.rail_specs.specs.Cost.{traction_cost, cost_of}
 
 -- a level step of 100 m, driven by a train of 100 tonnes with a constant resistance of 1,000 N
@@ -75,14 +75,14 @@ run = record {
   timings = (record { point = 2; latest = pos 50000 }) ∷ [];
 }
 
-time_up-of_a_drive : time_up run (0 ∷ 598 ∷ 0 ∷ []) 2 ≡ 96890
-time_up-of_a_drive = refl
+arrival_up-of_a_drive : arrival_up run (0 ∷ 598 ∷ 0 ∷ []) 2 ≡ 96890
+arrival_up-of_a_drive = refl
 
-time_down-of_a_drive : time_down run (0 ∷ 598 ∷ 0 ∷ []) 2 ≡ 96888
-time_down-of_a_drive = refl
+arrival_down-of_a_drive : arrival_down run (0 ∷ 598 ∷ 0 ∷ []) 2 ≡ 96888
+arrival_down-of_a_drive = refl
 
-time_up-at_the_first_point : time_up run (0 ∷ 598 ∷ 0 ∷ []) 0 ≡ 0
-time_up-at_the_first_point = refl
+arrival_up-at_the_first_point : arrival_up run (0 ∷ 598 ∷ 0 ∷ []) 0 ≡ 0
+arrival_up-at_the_first_point = refl
 
 slack_of-the_end : slack_of run 0 ≡ pos 20000
 slack_of-the_end = refl

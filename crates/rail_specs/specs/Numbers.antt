@@ -1,5 +1,6 @@
 -- How numbers stand in the texts that are read.
 use Rattle.std.specs.Prelude.{◌==◌, ◌&&◌, Bool, ℕ, ℤ, pos, neg_ℤ, List, [], ◌∷◌, Option, Some, None, option_map, if◌then◌else◌, nat_lt, nat_le, length, slice_index, drop, reverse}
+use Rattle.std.specs.Int.RustNames.{int_le}
 use Rattle.std.specs.Str.{all_ascii_digits}
 use Rattle.std.specs.Str.Parse.{digits_value, starts_with_minus}
 
@@ -40,3 +41,7 @@ abbrev pub number_of : List ℕ → Option ℤ
 number_of text =
     let inside = trimmed text in
     if starts_with_plus inside then option_map pos (digits_number 18 (drop 1 inside)) else field_number inside
+
+-- a number is from low to high
+abbrev pub is_within : ℤ → ℤ → ℤ → Bool
+is_within low high n = int_le low n && int_le n high

@@ -1,7 +1,7 @@
 -- The answer to a plan: which text and which status the rules of a run allow.
 use Rattle.std.specs.Prelude.{ℕ, ◌≡◌, List, ℤ, Bool, IsTrue, ◌↔◌, ◌⊎◌, if◌then◌else◌}
 use Rattle.rail_specs.specs.Rules.{Rules, IsGreatestDrive, NoDrive, timing_at}
-use Rattle.rail_specs.specs.Times.{IsOnTimeUp, NoneOnTime, IsFirstLate, time_up}
+use Rattle.rail_specs.specs.Times.{IsOnTimeUp, NoneOnTime, IsFirstLate, arrival_up}
 use Rattle.rail_specs.specs.Cost.{traction_cost, cost_of, IsBound, GapMet}
 use Rattle.rail_specs.specs.Report.{no_drive_text, late_text, report_text}
 
@@ -17,7 +17,7 @@ pub record IsLateAnswer (r : Rules) (status : ℕ) (text : List ℕ) (speeds : L
   pub none : NoneOnTime r
   pub first : IsFirstLate r speeds j
   pub ends : status ≡ 5
-  pub says : text ≡ late_text r j (time_up r speeds (timing_at r j).point)
+  pub says : text ≡ late_text r j (arrival_up r speeds (timing_at r j).point)
 
 -- the greatest drive is on time: its energy, a bound, and whether the gap between them is met, status 0, or open, status 1
 pub record IsDriveAnswer (r : Rules) (tolerance status : ℕ) (text : List ℕ) (speeds : List ℕ) (energy bound : ℤ) (met : Bool) : Type 0 where

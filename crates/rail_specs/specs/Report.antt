@@ -5,7 +5,7 @@ use Rattle.std.specs.List.{flat_map}
 use Rattle.std.specs.Fmt.{signed_decimal}
 use Rattle.rail_specs.specs.declared.Timing.{Timing}
 use Rattle.rail_specs.specs.Rules.{Rules, timing_at}
-use Rattle.rail_specs.specs.Times.{time_up}
+use Rattle.rail_specs.specs.Times.{arrival_up}
 use Rattle.rail_specs.specs.Phase.{phase_at, phase_name, is_same}
 
 -- a line of a text
@@ -73,7 +73,7 @@ phase_lines r speeds (suc i) = phase_lines r speeds i ++ (if ends_run r speeds i
 
 -- the line of a timing point: its place in metres, the arrival, step times rounded up, and the latest time, in ms
 unfoldable pub time_line : Rules → List ℕ → Timing → List ℕ
-time_line r speeds t = line (codes "time" ++ spaced (pos (slice_index r.places t.point)) ++ spaced (pos (time_up r speeds t.point)) ++ spaced t.latest)
+time_line r speeds t = line (codes "time" ++ spaced (pos (slice_index r.places t.point)) ++ spaced (pos (arrival_up r speeds t.point)) ++ spaced t.latest)
 
 -- the lines of the energy, also in kilojoules, and of the bound
 abbrev pub energy_lines : ℤ → ℤ → List ℕ

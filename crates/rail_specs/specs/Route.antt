@@ -1,14 +1,17 @@
 -- What the text of a route means: its data, or the first line that is refused, and the rules of the data.
 use Rattle.std.specs.Prelude.{filter, ℕ, ◌+◌, ◌*◌, ◌&&◌, ℤ, pos, negsuc, Bool, true, false, List, [], ◌∷◌, ◌++◌, Option, Some, None, Result, Ok, Err, if◌then◌else◌, nat_lt, length, drop, map, replicate, codes}
-use Rattle.std.specs.Int.RustNames.{int_le, unsigned_abs}
+use Rattle.std.specs.Int.RustNames.{unsigned_abs}
 use Rattle.std.specs.Str.{bytes_eq}
 use Rattle.std.specs.Str.Lines.{lines}
 use Rattle.rail_specs.specs.declared.RouteFault.{RouteFault}
 use Rattle.rail_specs.specs.declared.RouteFault.TheVariants.{Form, Range, TooManySteps}
 use Rattle.rail_specs.specs.declared.StepNumbers.{StepNumbers}
+use Rattle.rail_specs.specs.declared.TrainNumbers.{TrainNumbers}
 use Rattle.rail_specs.specs.First.{first_in}
 use Rattle.rail_specs.specs.Lines.{line_at, is_line, begins, numbers_after, numbers_at, number, size}
+use Rattle.rail_specs.specs.Numbers.{is_within}
 use Rattle.rail_specs.specs.Rules.{Rules}
+use Rattle.rail_specs.specs.Step.{step_of_train}
 
 -- a step of a route
 pub record RouteStep : Type 0 where
@@ -19,12 +22,8 @@ pub record RouteStep : Type 0 where
 
 -- what the text of a route says
 pub record Route : Type 0 where
-  -- the train: its mass and inertia mass in 1/10 tonne, and the coefficients of its resistance
-  pub mass : ℕ
-  pub inertia : ℕ
-  pub a : ℕ
-  pub b : ℕ
-  pub c : ℕ
+  -- the train: its masses and the coefficients of its resistance
+  pub train : TrainNumbers
   -- its top speed in cm/s, and its forces in N at every speed up to that
   pub top : ℕ
   pub traction : ℕ
@@ -34,10 +33,6 @@ pub record Route : Type 0 where
   pub steps : List RouteStep
 
 -- ---- the lines of the text, by their numbers from 1: a line is of its form, and then its numbers are in range
-
--- a number is from low to high
-abbrev pub is_within : ℤ → ℤ → ℤ → Bool
-is_within low high n = int_le low n && int_le n high
 
 -- the fault of line n: it isn't of its form, or what it says is out of range
 abbrev pub form_then_range : {X : Type 0} → ℕ → Option X → (X → Bool) → Option RouteFault
@@ -135,14 +130,14 @@ step_on line = step_of (numbers_after (codes "step ") 3 line)
 abbrev pub steps_on : List (List ℕ) → List RouteStep
 steps_on ls = map step_on (filter is_step_line ls)
 
+-- the train of five numbers
+abbrev pub train_numbers : Option (List ℤ) → TrainNumbers
+train_numbers ns = record { mass = size ns 0; inertia = size ns 1; a = size ns 2; b = size ns 3; c = size ns 4 }
+
 -- the route on lines
 abbrev pub route_in : List (List ℕ) → Route
 route_in ls = record {
-  mass = size (train_line ls) 0;
-  inertia = size (train_line ls) 1;
-  a = size (train_line ls) 2;
-  b = size (train_line ls) 3;
-  c = size (train_line ls) 4;
+  train = train_numbers (train_line ls);
   top = size (top_line ls) 0;
   traction = size (traction_line ls) 0;
   brake = size (brake_line ls) 0;
@@ -161,9 +156,9 @@ route_of text = unless (first_in (line_faults (lines text))) (route_in (lines te
 
 -- ---- the rules of a route
 
--- the numbers of a route's step
-abbrev pub step_numbers : Route → RouteStep → StepNumbers
-step_numbers r s = record { mass = r.mass; inertia = r.inertia; a = r.a; b = r.b; c = r.c; metres = s.metres; gradient = s.gradient }
+-- the numbers of a step of a route with this train
+abbrev pub step_numbers : TrainNumbers → RouteStep → StepNumbers
+step_numbers t s = step_of_train t s.metres s.gradient
 
 -- the places at the ends of steps of these lengths, where the first of them begins at this place
 abbrev pub ends_from : ℕ → List ℕ → List ℕ
@@ -179,7 +174,7 @@ rules_of_route r =
       top = r.top;
       traction = replicate (r.top + 1) r.traction;
       brake = replicate (r.top + 1) r.brake;
-      steps = map (step_numbers r) r.steps;
+      steps = map (step_numbers r.train) r.steps;
       limits = map (λ s. s.limit) r.steps;
       places = 0 ∷ ends_from 0 (map (λ s. s.metres) r.steps);
       stops = replicate n false ++ true ∷ [];

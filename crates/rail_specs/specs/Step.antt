@@ -3,6 +3,7 @@
 use Rattle.std.specs.Prelude.{ℕ, ◌+◌, ◌-◌, ◌*◌, ◌/◌, ◌<◌, ◌≤◌, ℤ, pos, negsuc, ◌+ℤ◌, ◌-ℤ◌, ◌*ℤ◌, ◌≤ℤ◌}
 use Rattle.std.specs.Int.{div_ceil}
 use Rattle.rail_specs.specs.declared.StepNumbers.{StepNumbers}
+use Rattle.rail_specs.specs.declared.TrainNumbers.{TrainNumbers}
 
 -- the energy of the train's motion at speed v
 abbrev pub kinetic_energy : StepNumbers → ℕ → ℕ
@@ -38,13 +39,25 @@ lower_time metres v0 v1 = (200000 * metres) / (v0 + v1)
 abbrev pub upper_time : ℕ → ℕ → ℕ → ℕ
 upper_time metres v0 v1 = div_ceil (200000 * metres) (v0 + v1)
 
+-- the numbers of a train's step of this length in metres and this gradient in 1/10 per mille
+abbrev pub step_of_train : TrainNumbers → ℕ → ℤ → StepNumbers
+step_of_train t metres gradient = record { mass = t.mass; inertia = t.inertia; a = t.a; b = t.b; c = t.c; metres = metres; gradient = gradient }
+
+-- the train whose step it is
+abbrev pub train_of_step : StepNumbers → TrainNumbers
+train_of_step n = record { mass = n.mass; inertia = n.inertia; a = n.a; b = n.b; c = n.c }
+
+-- the numbers of a train are within their units' ranges
+pub record IsTrainInRange (t : TrainNumbers) : Type 0 where
+  pub mass : (1 ≤ t.mass) × (t.mass ≤ 100000)
+  pub inertia : (1 ≤ t.inertia) × (t.inertia ≤ 120000)
+  pub a : t.a ≤ 10000000
+  pub b : t.b ≤ 10000000
+  pub c : t.c ≤ 10000000
+
 -- the numbers of a step are within their units' ranges
 pub record IsInRange (n : StepNumbers) : Type 0 where
-  pub mass : (1 ≤ n.mass) × (n.mass ≤ 100000)
-  pub inertia : (1 ≤ n.inertia) × (n.inertia ≤ 120000)
-  pub a : n.a ≤ 10000000
-  pub b : n.b ≤ 10000000
-  pub c : n.c ≤ 10000000
+  pub train : IsTrainInRange (train_of_step n)
   pub metres : (1 ≤ n.metres) × (n.metres ≤ 1000)
   pub gradient : (negsuc 999 ≤ℤ n.gradient) × (n.gradient ≤ℤ pos 1000)
 

@@ -7,8 +7,42 @@
 
 ghost use Rattle.std.specs.Prelude.{◌≡◌};
 ghost use Rattle.rail_specs.specs.Ranges.{no_narrowing};
+ghost use Rattle.rail_specs.specs.Step.{step_of_train};
 
 use std::alloc::AllocError;
+
+/// What the work of a train's steps is computed from, beside their lengths and gradients: its masses and its resistance
+/// A + B v + C v^2 (Davis).
+#[derive(Clone, Copy)]
+pub struct TrainNumbers {
+    /// The mass, 1/10 tonne, 1 to 100,000.
+    pub mass: u32,
+    /// The mass with its rotating parts, 1/10 tonne, 1 to 120,000.
+    pub inertia: u32,
+    /// The constant part of the resistance, N, at most 10,000,000.
+    pub a: u32,
+    /// The part that grows with speed, 1/1000 N per cm/s, at most 10,000,000.
+    pub b: u32,
+    /// The part that grows with the square of speed, 1/1,000,000 N per (cm/s)^2, at most 10,000,000.
+    pub c: u32,
+}
+
+impl TrainNumbers {
+    /// The numbers of the train's step of this length, m, and gradient, 1/10 per mille.
+    pub fn step(self, metres: u16, gradient: i16) -> StepNumbers
+        ensures { result ≡ step_of_train self metres gradient }
+    {
+        StepNumbers {
+            mass: self.mass,
+            inertia: self.inertia,
+            a: self.a,
+            b: self.b,
+            c: self.c,
+            metres,
+            gradient,
+        }
+    }
+}
 
 /// What the work of one step is computed from.
 #[derive(Clone, Copy)]

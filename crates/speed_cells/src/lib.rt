@@ -1,10 +1,11 @@
 //! Cells: the speeds at each point of a run, parted into adjacent intervals that can be split.
 #![tactic(auto)]
 
-pub mod cells;
-pub mod laws;
+mod cells;
+mod laws;
 
 pub use cells::Cells;
+pub use laws::{fitting_cells_cover, splitting_keeps_speeds, whole_cells_fit};
 pub use rail_specs::Cell;
 
 #[cfg(test)]

@@ -1,3 +1,4 @@
+//! Cells that are split.
 use super::*;
 
 #[test]

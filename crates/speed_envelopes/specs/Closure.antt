@@ -3,7 +3,7 @@ use Rattle.std.specs.Prelude.{ℕ, ◌≤◌, ◌≡◌, ◌↔◌, max, min, Li
 use Rattle.rail_specs.specs.declared.Narrow.{Narrow}
 use Rattle.rail_specs.specs.Rules.{Rules, IsDrive, IsNarrowDrive, IsGreatestDrive, NoDrive}
 use Rattle.rail_specs.specs.Ranges.{IsGreatestNarrowDrive, NoNarrowDrive, no_narrowing}
-use Rattle.rail_specs.specs.Times.{time_up, IsOnTimeUp}
+use Rattle.rail_specs.specs.Times.{arrival_up, IsOnTimeUp}
 use Rattle.drive_rules.specs.Shaped.{IsShaped}
 use Rattle.speed_envelopes.specs.Narrowing.{IsNarrowerThan}
 
@@ -37,7 +37,7 @@ LesserIsNarrowDrive = (r : Rules) (n : Narrow) (a b c : List ℕ) → IsShaped r
 
 -- a drive that is no slower anywhere arrives no later at each point
 abbrev pub FasterIsSooner : Type 0
-FasterIsSooner = (r : Rules) (a b : List ℕ) (k : ℕ) → IsShaped r → IsDrive r a → IsSlower a b → k ≤ length r.steps → time_up r b k ≤ time_up r a k
+FasterIsSooner = (r : Rules) (a b : List ℕ) (k : ℕ) → IsShaped r → IsDrive r a → IsSlower a b → k ≤ length r.steps → arrival_up r b k ≤ arrival_up r a k
 
 -- so it is on time where the slower one is
 abbrev pub FasterIsOnTime : Type 0

@@ -11,7 +11,7 @@ pub square_bound : (v : ℕ) → v ≤ 12001 → v * v ≤ 144024001
 square_bound v h = mul-le v v 12001 12001 h h
 
 pub climb_factor_bound : (n : StepNumbers) → IsInRange n → 196200 * n.mass * n.metres ≤ 19620000000000
-climb_factor_bound n r = mul-le (196200 * n.mass) n.metres 19620000000 1000 (omega (arith, r.mass.1)) r.metres.1
+climb_factor_bound n r = mul-le (196200 * n.mass) n.metres 19620000000 1000 (omega (arith, r.train.mass.1)) r.metres.1
 
 pub climb_bound : (n : StepNumbers) → IsInRange n → unsigned_abs (gradient_work n) ≤ 19620000000000000
 climb_bound n r =
@@ -20,19 +20,19 @@ climb_bound n r =
     (mul-le (196200 * n.mass * n.metres) (unsigned_abs n.gradient) 19620000000000 1000 (climb_factor_bound n r) g)
 
 pub flat_bound : (n : StepNumbers) → IsInRange n → 2000000 * n.a * n.metres ≤ 20000000000000000
-flat_bound n r = mul-le (2000000 * n.a) n.metres 20000000000000 1000 (omega (arith, r.a)) r.metres.1
+flat_bound n r = mul-le (2000000 * n.a) n.metres 20000000000000 1000 (omega (arith, r.train.a)) r.metres.1
 
 pub slope_bound : (n : StepNumbers) (v : ℕ) → IsInRange n → v ≤ 12001 → 2000 * n.b * n.metres * v ≤ 240020000000000000
 slope_bound n v r h =
-    mul-le (2000 * n.b * n.metres) v 20000000000000 12001 (mul-le (2000 * n.b) n.metres 20000000000 1000 (omega (arith, r.b)) r.metres.1) h
+    mul-le (2000 * n.b * n.metres) v 20000000000000 12001 (mul-le (2000 * n.b) n.metres 20000000000 1000 (omega (arith, r.train.b)) r.metres.1) h
 
 pub rise_bound : (n : StepNumbers) (v : ℕ) → IsInRange n → HasSmallDrag n → v ≤ 12001 → (10000 * n.inertia + n.c * n.metres) * (v * v) ≤ 345657602400000000
 rise_bound n v r d h =
-    mul-le (10000 * n.inertia + n.c * n.metres) (v * v) 2400000000 144024001 (omega (arith, r.inertia.1, d)) (square_bound v h)
+    mul-le (10000 * n.inertia + n.c * n.metres) (v * v) 2400000000 144024001 (omega (arith, r.train.inertia.1, d)) (square_bound v h)
 
 pub fall_bound : (n : StepNumbers) (v : ℕ) → IsInRange n → v ≤ 12001 → work_down n v ≤ 172828801200000000
 fall_bound n v r h =
-    mul-le (10000 * n.inertia - n.c * n.metres) (v * v) 1200000000 144024001 (omega (arith, r.inertia.1)) (square_bound v h)
+    mul-le (10000 * n.inertia - n.c * n.metres) (v * v) 1200000000 144024001 (omega (arith, r.train.inertia.1)) (square_bound v h)
 
 -- the entry part, as the coefficients give it
 pub work_up_by : (n : StepNumbers) (v : ℕ) →

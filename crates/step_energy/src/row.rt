@@ -1,5 +1,5 @@
 //! One step of a line, ready for its work.
-ghost use Rattle.std.specs.Prelude.{◌≡◌, ℕ, ◌+◌, ◌*◌, ◌^◌, ◌<◌, ◌≤◌, ◌↔◌, ℤ, pos, ◌-ℤ◌, ◌≤ℤ◌, IfOk, OnOk, IsErr};
+ghost use Rattle.std.specs.Prelude.{◌≡◌, ℕ, ◌+◌, ◌*◌, ◌^◌, ◌<◌, ◌≤◌, ◌↔◌, ℤ, pos, neg_ℤ, ◌-ℤ◌, ◌≤ℤ◌, IfOk, OnOk, IsErr, IsTrue};
 ghost use Rattle.std.specs.Int.RustNames.{unsigned_abs};
 ghost use Rattle.rail_specs.specs.Step.{work, work_up, work_down, gradient_work, IsInRange, HasSmallDrag};
 
@@ -130,6 +130,24 @@ impl StepRow {
         ensures small { unsigned_abs result ≤ 4000000000000000 }
     {
         (self.unit * force as u64) as i64
+    }
+
+    /// Whether a traction of this force, in N, does the work over the step that is asked, in 0.5 microjoule.
+    pub fn is_pulled(&self, work: i64, force: u32) -> bool
+        requires { force ≤ 2000000 }
+        ensures { IsTrue result ↔ (work ≤ℤ pos (2000000 * self.now.metres * force)) }
+    {
+        work <= self.force_work(force)
+    }
+
+    /// Whether brakes of this force, in N, hold the train where the step asks for this work, in 0.5 microjoule: they take what it is
+    /// below 0.
+    pub fn is_held(&self, work: i64, force: u32) -> bool
+        requires work { unsigned_abs work < 2 ^ 62 }
+        requires force { force ≤ 2000000 }
+        ensures { IsTrue result ↔ (neg_ℤ (pos (2000000 * self.now.metres * force)) ≤ℤ work) }
+    {
+        work + self.force_work(force) >= 0
     }
 
     /// `up` in 64 bits.

@@ -57,6 +57,16 @@ fn work_of_a_level_step(rt: HostRuntime) {
     }
     assert_eq!(rt; row.metres(), 100);
     assert_eq!(rt; row.force_work(51_000), 10_200_000_000_000);
+    // 1,000 N do 200,000,000,000 over the step
+    for (work, pulled, held) in [
+        (200_000_000_000, true, true),
+        (200_000_000_001, false, true),
+        (-200_000_000_000, true, true),
+        (-200_000_000_001, true, false),
+    ] {
+        assert_eq!(rt; row.is_pulled(work, 1000), pulled, "work {work}");
+        assert_eq!(rt; row.is_held(work, 1000), held, "work {work}");
+    }
 }
 
 #[test]

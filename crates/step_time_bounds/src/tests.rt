@@ -1,3 +1,4 @@
+//! Times of steps on worked numbers.
 use super::*;
 
 #[test]

@@ -4,7 +4,7 @@
 //! is on time. So a priced sum of works and times, less that charge, is a bound (weak duality).
 #![tactic(auto)]
 
-pub mod prices;
+mod prices;
 
 pub use prices::Prices;
 

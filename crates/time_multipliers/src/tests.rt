@@ -1,3 +1,4 @@
+//! Prices of steps on worked numbers.
 use super::*;
 use std::alloc::{AllocError, Global};
 

@@ -1,15 +1,17 @@
 -- What holds of every train that is read.
-use Rattle.std.specs.Prelude.{◌≡◌, ◌≤◌, length}
+use Rattle.std.specs.Prelude.{◌≡◌, length}
+use Rattle.rail_specs.specs.declared.TrainNumbers.{TrainNumbers}
+use Rattle.rail_specs.specs.Step.{IsTrainInRange}
 use Rattle.rail_specs.specs.Table.{IsForceTable}
 use Rattle.train_file.specs.declared.train.Train.{Train}
 
+-- what the work of its steps is computed from
+abbrev pub numbers_of : Train → TrainNumbers
+numbers_of t = record { mass = t.mass; inertia = t.inertia; a = t.a; b = t.b; c = t.c }
+
 -- the numbers are within their units' ranges, and both tables are tables with one top
 pub record IsTrain (t : Train) : Type 0 where
-  pub mass : (1 ≤ t.mass) × (t.mass ≤ 100000)
-  pub inertia : (1 ≤ t.inertia) × (t.inertia ≤ 120000)
-  pub a : t.a ≤ 10000000
-  pub b : t.b ≤ 10000000
-  pub c : t.c ≤ 10000000
+  pub numbers : IsTrainInRange (numbers_of t)
   pub traction : IsForceTable t.traction
   pub brake : IsForceTable t.brake
   pub tops : length t.traction ≡ length t.brake

@@ -1,10 +1,11 @@
 -- What a train file says, or why a text is none.
-use Rattle.std.specs.Prelude.{◌&&◌, ◌==◌, ◌+◌, ◌∷◌, ℕ, ℤ, pos, List, [], Option, Some, None, Result, Ok, Err, if◌then◌else◌, codes, length, map, option_and_then}
-use Rattle.std.specs.Int.RustNames.{int_le, unsigned_abs}
+use Rattle.std.specs.Prelude.{◌==◌, ◌+◌, ◌∷◌, ℕ, ℤ, pos, List, [], Option, Some, None, Result, Ok, Err, if◌then◌else◌, codes, length, map, option_and_then}
+use Rattle.std.specs.Int.RustNames.{unsigned_abs}
 use Rattle.std.specs.List.{range_with_len}
 use Rattle.std.specs.Str.{is_utf8}
 use Rattle.toml.specs.Data.{Data, Items, no_items, item, Members, get_member, as_array, as_integer}
 use Rattle.toml.specs.Parse.{parse_document}
+use Rattle.rail_specs.specs.Numbers.{is_within}
 use Rattle.rail_specs.specs.Table.{force, top_speed}
 use Rattle.force_table.specs.Fault.{table_fault}
 use Rattle.force_table.specs.declared.fault.TableFault.{TableFault}
@@ -32,7 +33,7 @@ of_kind k (Some x) = Ok x
 
 -- a whole number from low to high
 abbrev pub whole_in : Key → ℕ → ℕ → ℤ → Result ℕ TrainFault
-whole_in k low high n = if int_le (pos low) n && int_le n (pos high) then Ok (unsigned_abs n) else Err (fault.OutOfRange k)
+whole_in k low high n = if is_within (pos low) (pos high) n then Ok (unsigned_abs n) else Err (fault.OutOfRange k)
 
 -- the whole number from low to high that a value is
 abbrev pub whole_of : Key → ℕ → ℕ → Data → Result ℕ TrainFault

@@ -1,7 +1,9 @@
 //! A train.
 ghost use Rattle.std.specs.Prelude.{◌≡◌, IfOk};
+ghost use Rattle.train_file.specs.Shape.{numbers_of};
 
 use force_table::ForceTable;
+use rail_specs::TrainNumbers;
 use std::alloc::{AllocError, Global};
 
 /// What a train is: its masses, its resistance A + B v + C v^2 (Davis), and its greatest forces by speed.
@@ -24,6 +26,19 @@ pub struct Train {
 }
 
 impl Train {
+    /// What the work of its steps is computed from, beside their lengths and gradients. It takes no memory.
+    pub fn numbers(&self) -> TrainNumbers
+        ensures { result ≡ numbers_of self.now }
+    {
+        TrainNumbers {
+            mass: self.mass,
+            inertia: self.inertia,
+            a: self.a,
+            b: self.b,
+            c: self.c,
+        }
+    }
+
     /// An equal train of its own.
     pub fn copy(&self, alloc: Global) -> Result<Train, AllocError>
         ensures { IfOk result (λ train. train ≡ self.now) }

@@ -8,6 +8,7 @@ ghost use Rattle.train_file.specs.TrainText.{forces_at, of_kind, pair_of, pairs_
 
 use crate::fault::{Key, TrainFault};
 use force_table::{ForceTable, TableFault};
+use rail_base::natural_within;
 use std::alloc::Global;
 use toml::{Table, Value};
 
@@ -25,11 +26,7 @@ fn value_at<'a>(table: &'a Table, name: &str, key: Key) -> Result<&'a Value, Tra
 fn whole_in(key: Key, low: u32, high: u32, number: i64) -> Result<u32, TrainFault>
     ensures { result ≡ whole_in key low high number }
 {
-    if i64::from(low) <= number && number <= i64::from(high) {
-        Ok(number as u32)
-    } else {
-        Err(TrainFault::OutOfRange(key))
-    }
+    natural_within(number, low, high).ok_or(TrainFault::OutOfRange(key))
 }
 
 /// The whole number from `low` to `high` that a value is.

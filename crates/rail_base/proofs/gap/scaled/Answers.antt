@@ -1,7 +1,7 @@
 use Rattle.std.proofs.Common.{arith, ℕ, ℤ, pos, to_z, of_z, to_z-of_z, FitsSigned, ◌≡◌, ◌≤◌, ◌^◌, ◌*ℤ◌}
 use mir.Syntax.{w128}
 use Rattle.std.specs.Int.RustNames.{unsigned_abs}
-use Rattle.std.proofs.lemmas.Int.{ints, fits_signed_mul, unsigned_abs-mul}
+use Rattle.std.proofs.lemmas.Int.{ints, unsigned_abs-mul}
 use Rattle.std.proofs.lemmas.Nat.{mul-le}
 use Rattle.rail_base.proofs.gap.scaled.Goals as goal
 

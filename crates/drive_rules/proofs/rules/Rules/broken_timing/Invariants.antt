@@ -1,5 +1,5 @@
 use Rattle.std.proofs.Common.{◌≡◌, ◌≤◌, ◌<◌, ◌*◌, None, length, get_or}
-use Rattle.rail_specs.specs.Times.{time_up}
+use Rattle.rail_specs.specs.Times.{arrival_up}
 use Rattle.drive_rules.specs.Verdict.{first_below, timing_fault}
 use Rattle.rail_specs.specs.Rules.{no_timing}
 use Rattle.drive_rules.proofs.rules.Rules.broken_timing.Given as goal
@@ -9,6 +9,6 @@ invariant-loop-t l = record {
   none : first_below (timing_fault l.self l.speeds) l.t-index ≡ None;
   within : l.point ≤ length l.self.steps;
   behind : l.t-index < length l.timings → l.point ≤ (get_or l.timings l.t-index no_timing).point;
-  value : l.time ≡ time_up l.self l.speeds l.point;
+  value : l.time ≡ arrival_up l.self l.speeds l.point;
   early : l.time ≤ 210000000 * l.point;
 }

@@ -1,4 +1,4 @@
-// Numbers of calls that fail.
+//! Numbers of calls that fail.
 
 ghost use Rattle.std.specs.Prelude.{◌≡◌};
 ghost use Rattle.edge_io.specs.Memory.{is_listed};

@@ -1,0 +1,29 @@
+//! Texts put in pieces, and calls that fail.
+use super::*;
+use crate::sink::put_all;
+use std::test::Fail;
+
+#[test]
+fn pieces_are_put(rt: HostRuntime) -> Result<(), Fail> {
+    let alloc = rt.alloc();
+    let mut sink = MemorySink::new(alloc, 4, 10, [3].to_vec(alloc)?)?;
+    assert_eq!(rt; sink.put(b""), Ok(0));
+    assert_eq!(rt; sink.put(b"abcdef"), Ok(4));
+    assert_eq!(rt; sink.put(b"ef"), Ok(2));
+    assert_eq!(rt; sink.put(b"g"), Err(Failed));
+    assert_eq!(rt; put_all(&mut sink, b"ghijklm"), Err(Failed));
+    assert_eq!(rt; sink.bytes(), b"abcdefghij".as_slice());
+    assert_eq!(rt; sink.put(b""), Ok(0));
+    Ok(())
+}
+
+#[test]
+fn whole_texts_are_put(rt: HostRuntime) -> Result<(), Fail> {
+    let alloc = rt.alloc();
+    let mut sink = MemorySink::new(alloc, 10, 100, [2].to_vec(alloc)?)?;
+    assert_eq!(rt; put_all(&mut sink, b"advice 1\ngap open\n"), Err(Failed));
+    assert_eq!(rt; sink.bytes(), b"advice 1\ng".as_slice());
+    assert_eq!(rt; put_all(&mut sink, b"ap open\n"), Ok(()));
+    assert_eq!(rt; sink.bytes(), b"advice 1\ngap open\n".as_slice());
+    Ok(())
+}
