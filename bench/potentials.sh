@@ -1,25 +1,13 @@
 #!/bin/sh
-# Instructions per link of a table of potentials.
+# Instructions per link of a table of potentials. Needs rt, python3 and valgrind; where nothing was proved before it takes some minutes.
 #
-# usage: bench/potentials.sh        needs rt, python3 and valgrind; it takes some minutes
-#
-# It builds a small program in a copy of the repository, which fills a table over level steps, so many cells a point. With a
-# strong traction every link is possible; with none the half that would gain speed is forbidden by the traction. It counts the
-# instructions of one and of two more tables under callgrind; the difference is what one table takes.
+# It builds a small program that fills a table over level steps, so many cells a point. With a strong traction every link is possible;
+# with none the half that would gain speed is forbidden by the traction. It counts the instructions of one and of two more tables under
+# callgrind; the difference is what one table takes.
 set -eu
-top=$(cd "$(dirname "$0")/.." && pwd)
-work=$(mktemp -d)
-trap 'rm -rf "$work"' EXIT
-mkdir "$work/crates"
-for crate in "$top"/crates/*/; do
-    name=$(basename "$crate")
-    mkdir "$work/crates/$name"
-    (cd "$crate" && find . -name out -prune -o -type f -print | tar cf - -T -) | (cd "$work/crates/$name" && tar xf -)
-done
-cp "$top/crates.txt" "$top/HANDLES" "$work/"
-mkdir -p "$work/crates/potentials_bench/src" "$work/crates/potentials_bench/proofs/rules" "$work/crates/potentials_bench/proofs/whole"
-echo 'potentials_bench: drive_rules rail_base step_energy speed_cells time_multipliers potential_table anyhow' >> "$work/crates.txt"
-cat > "$work/crates/potentials_bench/src/main.rt" <<'RT'
+. "$(dirname "$0")/crate.sh"
+
+cat >"$main" <<'RT'
 //! Fills a table of potentials, and counts the cells that have a value.
 #![tactic(auto)]
 
@@ -50,20 +38,9 @@ fn route_text(alloc: Global, steps: u32, traction: bool) -> Result<Vec<u8>, Allo
     text.extend_from_slice(b"end\n")?;
     Ok(text)
 }
-
-fn rules_of<L: Ledger>(alloc: Global, text: &[u8], blank: Blank) -> Option<Rules>
-    requires name { blank.name ≡ L.name }
-    requires parts { blank.parts ≡ L.parts }
-    requires some { 0 < L.parts }
-{
-    let mut steps = Steps::<L>::new(blank);
-    read_route(alloc, text, &mut steps).ok()
-}
-
-fn rules(alloc: Global, text: &[u8]) -> Option<Rules> {
-    rules_of::<Brand>(alloc, text, Blank::new(1))
-}
-
+RT
+echo "$reading_rules" >>"$main"
+cat >>"$main" <<'RT'
 /// One cell a point: 0 at both ends, and 1 to 1000 between them.
 fn whole(alloc: Global, points: u32) -> Result<Cells, AllocError> {
     let mut pairs = Vec::new(alloc);
@@ -150,26 +127,16 @@ fn main(rt: HostRuntime) -> anyhow::Result<()> {
     Ok(())
 }
 RT
-cat > "$work/crates/potentials_bench/proofs/rules/Invariants.antt" <<'ANTT'
-use Rattle.potentials_bench.proofs.rules.Given as goal
-
-abbrev pub ghosts-rules_of : goal.ghosts-rules_of
-ghosts-rules_of a = record { name = a.blank.name; parts = a.blank.parts }
-ANTT
-cat > "$work/crates/potentials_bench/proofs/whole/Invariants.antt" <<'ANTT'
+proof_of_rules
+proof whole/Invariants.antt <<'ANTT'
 use Rattle.std.specs.Prelude.{◌≤◌, length, All}
-use Rattle.potentials_bench.proofs.whole.Given as goal
+use Rattle.bench.proofs.whole.Given as goal
 
 abbrev pub invariant-loop : goal.invariant-loop
 invariant-loop l = (1 ≤ length l.pairs.items) × All (λ p. (p.0 ≤ p.1) × (p.1 ≤ 12000)) l.pairs.items
 ANTT
-cd "$work/crates/potentials_bench"
-rt run -- 3 1 1 1 >/dev/null 2>"$work/build.txt" || { tail -n 5 "$work/build.txt"; exit 1; }
+build "drive_rules rail_base step_energy speed_cells time_multipliers potential_table anyhow"
 
-counted() { # instructions of the program with these words
-    valgrind --tool=callgrind --callgrind-out-file="$work/callgrind" out/potentials_bench "$@" >/dev/null 2>"$work/log"
-    sed -n 's/.*Collected : //p' "$work/log"
-}
 for size in "400 5" "41 1000"; do
     for traction in 1 0; do
         one=$(counted $size $traction 1)

@@ -1,5 +1,5 @@
 -- What the places of the grid give: no step goes over the end of a section, and none is longer than the grid's step.
-use Rattle.std.proofs.Common.{ℕ, zero, suc, ◌≡◌, ◌<◌, ◌≤◌, ◌+◌, ◌-◌, ◌*◌, ◌/◌, ◌%◌, ◌∙◌, ◌⊎◌, ◌++◌, List, length, map, get_or, subst, sym, ap, arith, inl, inr, Contains, pos, negsuc}
+use Rattle.std.proofs.Common.{ℕ, ◌≡◌, ◌<◌, ◌≤◌, ◌+◌, ◌-◌, ◌*◌, ◌/◌, ◌%◌, ◌∙◌, ◌++◌, List, length, map, get_or, subst, ap, arith, inl, inr, Contains}
 use Rattle.std.specs.Int.RustNames.{unsigned_abs}
 use Rattle.std.proofs.lemmas.Int.{ints}
 use Rattle.std.proofs.lemmas.Bool.{cases_lt}
@@ -13,11 +13,11 @@ use Rattle.line_file.specs.declared.line.Line.{Line}
 use Rattle.line_file.specs.declared.service.Service.{Service}
 use Rattle.line_file.specs.LineText.{first_from, last_to, no_section}
 use Rattle.line_file.specs.ServiceText.{no_call}
-use Rattle.line_file.specs.Shape.{section_at, call_at, AreSections, IsLine, IsService}
+use Rattle.line_file.specs.Shape.{section_at, call_at, IsLine, IsService}
 use Rattle.drive_rules.specs.declared.setup.Setup.{Setup}
 use Rattle.drive_rules.specs.Joined.{AreGridPlaces, ForNone, IsOutside, IsSetup, first_place, last_place, marks_of}
-use Rattle.drive_rules.specs.Joining.{AreCut, Follow, Rising}
-use Rattle.drive_rules.proofs.JoinedRising.{places_order, places_not_above, places_rise, calls_rise}
+use Rattle.drive_rules.specs.Joining.{AreCut, Follow}
+use Rattle.drive_rules.proofs.JoinedRising.{places_order, places_not_above, calls_rise}
 
 pub place_low : (marks : List ℕ) (step from to p : ℕ) → from < to → IsPlace marks step from to p → from ≤ p
 place_low marks step from to p span h = elim h [ inl e ↦ omega (arith, e) | inr o ↦ elim o [ inl e ↦ omega (arith, e, span) | inr b ↦ omega (arith, b.0) ] ]

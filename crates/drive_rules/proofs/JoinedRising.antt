@@ -1,13 +1,12 @@
 -- Calls, sections and places that rise.
-use Rattle.std.proofs.Common.{ℕ, zero, suc, ◌≡◌, ◌<◌, ◌≤◌, ◌+◌, List, length, get_or, subst, sym, arith, inl, inr, add-one, ap}
+use Rattle.std.proofs.Common.{ℕ, zero, suc, ◌≡◌, ◌<◌, ◌≤◌, ◌+◌, List, length, get_or, arith, inl, inr, add-one, ap}
 use Rattle.std.proofs.lemmas.Bool.{cases_lt, cases_eq}
 use Rattle.rail_specs.specs.declared.Timing.{Timing}
 use Rattle.rail_specs.specs.Rules.{no_timing}
 use Rattle.drive_rules.specs.Timings.{Rises}
-use Rattle.line_file.specs.declared.sections.Section.{Section}
 use Rattle.line_file.specs.declared.calls.Call.{Call}
-use Rattle.line_file.specs.Shape.{section_at, call_at, AreSections}
-use Rattle.drive_rules.specs.Joining.{Rising, CallsRise, Follow}
+use Rattle.line_file.specs.Shape.{call_at}
+use Rattle.drive_rules.specs.Joining.{Rising, CallsRise}
 
 -- what rises from each to the next rises from each to each later one
 rises_to : (f : ℕ → ℕ) (n : ℕ) → ((k : ℕ) → k + 1 < n → f k < f (k + 1)) → (i j : ℕ) → i < j → j < n → f i < f j

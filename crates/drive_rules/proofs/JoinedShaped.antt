@@ -1,5 +1,5 @@
 -- Joined rules have the shape of the rules of every run.
-use Rattle.std.proofs.Common.{ℕ, ℤ, zero, suc, ◌≡◌, ◌<◌, ◌≤◌, ◌≤ℤ◌, ◌+◌, ◌-◌, ◌-ℤ◌, ◌*◌, ◌∙◌, ◌⊎◌, ◌==◌, List, Bool, true, false, Option, Some, None, length, get_or, subst, sym, ap, arith, inl, inr, refl, pos, negsuc, All}
+use Rattle.std.proofs.Common.{ℕ, ℤ, ◌≡◌, ◌<◌, ◌≤◌, ◌+◌, ◌-◌, ◌*◌, ◌∙◌, ◌⊎◌, ◌==◌, List, Bool, true, false, Option, Some, None, length, get_or, subst, sym, ap, arith, inl, inr, refl, pos, negsuc}
 use Rattle.std.specs.Prelude.{IfSome, IsSome, MatchBool}
 use Rattle.std.specs.Int.RustNames.{unsigned_abs}
 use Rattle.std.proofs.lemmas.Int.{ints}
@@ -8,22 +8,22 @@ use Rattle.std.proofs.lemmas.List.{get_or_past}
 use Rattle.std.proofs.lemmas.List.Elements.{All-from_get_or}
 use Rattle.rail_specs.specs.declared.StepNumbers.{StepNumbers}
 use Rattle.rail_specs.specs.declared.Timing.{Timing}
-use Rattle.rail_specs.specs.Rules.{Rules, IsPassed, is_stop, step_at, no_timing, timing_at}
-use Rattle.rail_specs.specs.Step.{IsInRange, HasSmallDrag}
+use Rattle.rail_specs.specs.declared.TrainNumbers.{TrainNumbers}
+use Rattle.rail_specs.specs.Rules.{Rules, is_stop, step_at, no_timing}
+use Rattle.rail_specs.specs.Step.{IsInRange, IsTrainInRange, HasSmallDrag}
 use Rattle.rail_specs.specs.Table.{IsForceTable}
 use Rattle.line_file.specs.declared.calls.Call.{Call}
+use Rattle.line_file.specs.declared.sections.Section.{Section}
 use Rattle.line_file.specs.declared.line.Line.{Line}
 use Rattle.line_file.specs.declared.service.Service.{Service}
-use Rattle.line_file.specs.Shape.{section_at, call_at, IsLine, IsService, AreCalls, AreSections}
-use Rattle.line_file.specs.ServiceText.{no_call, last_call}
+use Rattle.line_file.specs.Shape.{call_at, IsLine, IsService, AreCalls}
+use Rattle.line_file.specs.ServiceText.{no_call}
 use Rattle.train_file.specs.declared.train.Train.{Train}
 use Rattle.train_file.specs.Shape.{IsTrain}
 use Rattle.drive_rules.specs.declared.setup.Setup.{Setup}
-use Rattle.drive_rules.specs.declared.setup.Stretch.{Stretch}
-use Rattle.drive_rules.specs.Joined.{IsJoined, IsSetup, IsStepOf, IsLeastLimit, IsPointOf, IsCallAt, IsTimingOf, IsLatest, IsStretch, ForNone, IsTooGreat, stretch_at, is_stop_call, dwell_of, milliseconds, marks_of, first_place, last_place}
-use Rattle.drive_rules.specs.Joining.{NoneClose, IsCloseStop}
+use Rattle.drive_rules.specs.Joined.{IsJoined, IsSetup, IsStepOf, IsLeastLimit, IsPointOf, IsTimingOf, IsLatest, ForNone, IsTooGreat, marks_of, last_place}
+use Rattle.drive_rules.specs.Joining.{NoneClose}
 use Rattle.drive_rules.specs.Shaped.{IsShaped}
-use Rattle.drive_rules.specs.Timings.{Rises}
 use Rattle.drive_rules.proofs.JoinedGrid.{first_is, last_is, two_places, short_steps, place_at, place_high}
 use Rattle.drive_rules.proofs.JoinedRising.{places_rise, timings_rise}
 use Rattle.drive_rules.proofs.JoinedSteps.{value_low, value_high}
@@ -32,21 +32,18 @@ use Rattle.drive_rules.proofs.JoinedStops.{one_call}
 -- a step of joined rules is in range
 step_in_range : (line : Line) (train : Train) (s e : ℕ) (n : StepNumbers) → IsLine line → IsTrain train → s < e → e ≤ s + 1000 → IsStepOf train line.gradients s e n → IsInRange n
 step_in_range line train s e n h t long short is = record {
-  mass = (omega (arith, is.mass, t.mass.0), omega (arith, is.mass, t.mass.1));
-  inertia = (omega (arith, is.inertia, t.inertia.0), omega (arith, is.inertia, t.inertia.1));
-  a = omega (arith, is.a, t.a);
-  b = omega (arith, is.b, t.b);
-  c = omega (arith, is.c, t.c);
+  train = subst IsTrainInRange (sym is.train_is) t.numbers;
   metres = (omega (arith, is.metres, long), omega (arith, is.metres, short));
   gradient = (value_low (negsuc 999) (pos 1000) line.gradients h.gradients s e n.gradient is.gradient, value_high (negsuc 999) (pos 1000) line.gradients h.gradients s e n.gradient is.gradient);
 }
 
 -- its drag is small
-step_light : (train : Train) (s e c inertia metres : ℕ) → c ≡ train.c → inertia ≡ train.inertia → e ≡ s + metres → (10000 * train.inertia ≤ train.c * (e - s) → ⊥) → c * metres < 10000 * inertia
-step_light train s e c inertia metres c_is inertia_is e_is light = elim (cases_lt (c * metres) (10000 * inertia)) [
+step_light : (train : Train) (gradients : List Section) (s e : ℕ) (n : StepNumbers) → IsStepOf train gradients s e n → (10000 * train.inertia ≤ train.c * (e - s) → ⊥) → HasSmallDrag n
+step_light train gradients s e n is light = elim (cases_lt (n.c * n.metres) (10000 * n.inertia)) [
   | inl b ↦ b
-  | inr great ↦ absurd (light (let m : metres ≡ e - s = omega (arith, e_is) in
-      let product : c * metres ≡ train.c * (e - s) = ap (λ (x : ℕ). x * metres) c_is ∙ ap (λ (x : ℕ). train.c * x) m in omega (arith, great, product, inertia_is)))
+  | inr great ↦ absurd (light (let m : n.metres ≡ e - s = omega (arith, is.metres) in
+      let inertia : n.inertia ≡ train.inertia = ap (λ (t : TrainNumbers). t.inertia) is.train_is in
+      let product : n.c * n.metres ≡ train.c * (e - s) = ap (λ (t : TrainNumbers). t.c * n.metres) is.train_is ∙ ap (λ (x : ℕ). train.c * x) m in omega (arith, great, product, inertia)))
 ]
 
 -- a limit is at most 12,000
@@ -151,7 +148,7 @@ shaped line train service setup r h t s u j few apart light short few_timings =
       brake = subst (λ (xs : List ℕ). IsForceTable xs) (sym j.brake_is) t.brake;
       numbers = λ i l. step_in_range line train (get_or r.places i 0) (get_or r.places (i + 1) 0) (step_at r i) h t (g.rises i (in_points i l))
           (omega (arith, u.step.1, short_steps marks step from to r.places g span (omega (arith, u.step.0)) i (in_points i l))) (j.each_step i l);
-      small_drag = λ i l. step_light train (get_or r.places i 0) (get_or r.places (i + 1) 0) (step_at r i).c (step_at r i).inertia (step_at r i).metres (j.each_step i l).c (j.each_step i l).inertia (j.each_step i l).metres (light i l);
+      small_drag = λ i l. step_light train line.gradients (get_or r.places i 0) (get_or r.places (i + 1) 0) (step_at r i) (j.each_step i l) (light i l);
       limits = j.limits_are;
       low_limits = λ i. elim (cases_lt i n) [
         | inl b ↦ low_limit line service setup (get_or r.places i 0) (get_or r.places (i + 1) 0) (get_or r.limits i 0) h u (j.each_limit i b)

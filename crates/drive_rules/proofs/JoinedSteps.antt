@@ -1,15 +1,17 @@
 -- The steps of joined rules, from the values of their sections.
-use Rattle.std.proofs.Common.{ℕ, ℤ, ◌≡◌, ◌<◌, ◌≤◌, ◌≤ℤ◌, ◌+◌, ◌-◌, ◌∙◌, ◌⊎◌, List, length, get_or, subst, sym, ap, arith, inl, inr, pos, negsuc, zero, suc, refl}
+use Rattle.std.proofs.Common.{ℕ, ℤ, ◌≡◌, ◌<◌, ◌≤◌, ◌≤ℤ◌, ◌+◌, ◌-◌, ◌∙◌, List, length, get_or, subst, sym, ap, arith, inl, inr, pos, zero, suc, refl}
 use Rattle.std.proofs.lemmas.Int.{ints}
 use Rattle.std.proofs.lemmas.Bool.{cases_lt, cases_eq}
 use Rattle.rail_specs.specs.declared.StepNumbers.{StepNumbers}
 use Rattle.rail_specs.specs.Rules.{no_step}
+use Rattle.rail_specs.specs.Step.{step_of_train}
 use Rattle.line_file.specs.declared.sections.Section.{Section}
-use Rattle.line_file.specs.Shape.{section_at, AreSections, IsSection}
+use Rattle.line_file.specs.Shape.{section_at, AreSections}
 use Rattle.train_file.specs.declared.train.Train.{Train}
+use Rattle.train_file.specs.Shape.{numbers_of}
 use Rattle.drive_rules.specs.declared.setup.Stretch.{Stretch}
 use Rattle.drive_rules.specs.Joined.{LiesIn, IsLeastLimit, IsStepOf, Meets}
-use Rattle.drive_rules.specs.Joining.{AreRows, AreValues, AreLowered, IsLowered, Follow, Rising, numbers_of}
+use Rattle.drive_rules.specs.Joining.{AreRows, AreValues, AreLowered, IsLowered, Rising}
 
 -- a section begins at or above the end of each earlier one
 later_section : (low high : ℤ) (sections : List Section) → AreSections low high sections → (i j : ℕ) → i < j → j < length sections → (section_at sections i).to ≤ (section_at sections j).from
@@ -67,8 +69,8 @@ pub value_high : (low high : ℤ) (sections : List Section) → AreSections low 
 value_high low high sections h s e v lies = subst (λ (z : ℤ). z ≤ℤ high) (sym lies.4) (h.each lies.0 lies.1).value.1
 
 -- the numbers of a step
-step_with : (train : Train) (gradients : List Section) (s e : ℕ) (value : ℤ) → s < e → LiesIn gradients s e value → IsStepOf train gradients s e (numbers_of train (e - s) value)
-step_with train gradients s e value long lies = record { mass = refl; inertia = refl; a = refl; b = refl; c = refl; metres = omega (arith, long); gradient = lies }
+step_with : (train : Train) (gradients : List Section) (s e : ℕ) (value : ℤ) → s < e → LiesIn gradients s e value → IsStepOf train gradients s e (step_of_train (numbers_of train) (e - s) value)
+step_with train gradients s e value long lies = record { train_is = refl; metres = omega (arith, long); gradient = lies }
 
 pub steps_are : (train : Train) (gradients : List Section) (places : List ℕ) (values : List ℤ) (rows : List StepNumbers) → Rising places →
     AreValues gradients places values → AreRows train values places rows → (i : ℕ) → i < length rows →

@@ -1,15 +1,14 @@
 -- Stops at points are stops of calls.
-use Rattle.std.proofs.Common.{ℕ, ◌≡◌, ◌<◌, ◌≤◌, ◌+◌, ◌-◌, ◌∙◌, ◌⊎◌, ◌||◌, ◌==◌, List, Bool, true, false, Option, Some, None, length, get_or, subst, sym, ap, arith, inl, inr, refl}
-use Rattle.std.specs.Prelude.{is_some}
-use Rattle.std.proofs.lemmas.Bool.{cases_lt, cases_eq, ne_eqb, true≢false}
+use Rattle.std.proofs.Common.{ℕ, ◌≡◌, ◌<◌, ◌≤◌, ◌+◌, ◌-◌, ◌∙◌, ◌==◌, List, Bool, true, false, length, get_or, subst, sym, arith, inl, inr, refl}
+use Rattle.std.proofs.lemmas.Bool.{cases_lt, ne_eqb, true≢false}
 use Rattle.std.proofs.lemmas.List.{get_or_past}
 use Rattle.line_file.specs.declared.calls.Call.{Call}
 use Rattle.line_file.specs.ServiceText.{no_call}
 use Rattle.line_file.specs.Shape.{call_at}
 use Rattle.drive_rules.specs.Joined.{HasStop, IsCallAt, IsFirst, ForNone, IsTooClose, is_stop_call}
-use Rattle.drive_rules.specs.Joining.{CallsRise, Rising, AreCallsAt, IsCloseStop, NoneClose}
+use Rattle.drive_rules.specs.Joining.{CallsRise, Rising, IsCloseStop, NoneClose}
 use Rattle.drive_rules.specs.JoiningParts.{AreStops}
-use Rattle.drive_rules.proofs.JoinedRising.{calls_rise, places_order, places_rise}
+use Rattle.drive_rules.proofs.JoinedRising.{calls_rise, places_order}
 
 -- there is no stop call past the last call
 never_past : (calls : List Call) (j : ℕ) → length calls ≤ j → is_stop_call calls j ≡ false

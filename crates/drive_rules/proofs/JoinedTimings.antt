@@ -1,5 +1,5 @@
 -- The timing points of the calls, as they are taken one after another.
-use Rattle.std.proofs.Common.{ℕ, zero, suc, ◌≡◌, ◌<◌, ◌≤◌, ◌+◌, ◌-◌, ◌∙◌, List, [], ◌∷◌, ◌++◌, Option, Some, None, length, get_or, take, drop, subst, sym, refl, ap, arith, inl, inr, length-append, length-drop, Contains, Bool, true, false, ◌⊎◌}
+use Rattle.std.proofs.Common.{ℕ, ◌≡◌, ◌<◌, ◌≤◌, ◌+◌, ◌-◌, ◌∙◌, List, [], ◌∷◌, ◌++◌, Option, Some, None, length, get_or, take, drop, subst, sym, refl, ap, arith, inl, inr, length-append, length-drop, Contains, Bool, true, false, ◌⊎◌}
 use Rattle.std.specs.Prelude.{count_by, IfSome, is_some}
 use Rattle.std.proofs.Math.ListN.{get_or-append}
 use Rattle.std.proofs.Math.Seq.{get_or-append_seam}

@@ -6,24 +6,22 @@ use Rattle.std.proofs.lemmas.Int.{ints}
 use Rattle.std.proofs.lemmas.Bool.{cases_eq}
 use Rattle.std.proofs.lemmas.Bool.Decides.{nat_tests}
 use Rattle.std.proofs.lemmas.List.{get_or_default}
-use Rattle.rail_specs.specs.Rules.{Rules, IsDrive, IsStepKept, IsPassed}
+use Rattle.rail_specs.specs.Rules.{Rules, IsDrive, IsStepKept, IsPassed, step_at, traction_work}
+use Rattle.rail_specs.specs.Step.{work}
 use Rattle.rail_specs.specs.Times.{IsOnTimeUp, arrival_up}
 use Rattle.rail_specs.specs.Rules.{no_timing}
 use Rattle.drive_rules.specs.Shaped.{IsShaped}
-use Rattle.rail_specs.specs.First.{first_of}
-use Rattle.drive_rules.specs.Verdict.{first_below, point_fault, step_rule, step_fault, timing_fault, verdict, Moves, IsKept, Judges}
+use Rattle.rail_specs.specs.First.{first_below}
+use Rattle.drive_rules.specs.Verdict.{point_fault, force_rule, step_rule, step_fault, timing_fault, verdict, Moves, IsKept, Judges}
+use Rattle.drive_rules.proofs.VerdictLemmas.{option_or-none}
 use Rattle.drive_rules.specs.declared.judge.Rule.{Rule}
 use Rattle.drive_rules.specs.declared.judge.Judged.{Judged}
 use Rattle.drive_rules.specs.declared.judge.Judged.TheVariants.{Kept, Broken}
 
-first_of-none : {X : Type 0} (a b : Option X) → first_of a b ≡ None → (a ≡ None) × (b ≡ None)
-first_of-none None b h = (refl, h)
-first_of-none (Some x) b h = cc
-
 pub first_below-none : {X : Type 0} (f : ℕ → Option X) (n : ℕ) → first_below f n ≡ None → (i : ℕ) → i < n → f i ≡ None
 first_below-none f zero h i l = absurd (omega arith)
 first_below-none f (suc n) h i l =
-    let p = first_of-none (first_below f n) (f n) h in
+    let p = option_or-none (first_below f n) (f n) h in
     elim (cases_eq i n) [
       | inl same ↦ subst (λ (j : ℕ). f j ≡ None) (sym same) p.1
       | inr apart ↦ first_below-none f n p.0 i (omega arith)
@@ -49,6 +47,10 @@ rule_kept r i v0 v1 h = grind (arith, nat_tests, ints)
 
 pub kept_rule : (r : Rules) (i v0 v1 : ℕ) → IsStepKept r i v0 v1 → step_rule r i v0 v1 ≡ None
 kept_rule r i v0 v1 h = grind (arith, nat_tests, ints)
+
+-- positive work within that of the traction breaks no rule on forces
+pub pulled : (r : Rules) (i v0 v1 : ℕ) (w : ℤ) → w ≡ work (step_at r i) v0 v1 → pos 1 ≤ℤ w → w ≤ℤ pos (traction_work r i v1) → force_rule r i v0 v1 ≡ None
+pulled r i v0 v1 w e some h = grind (arith, ints)
 
 -- a step has a cost exactly where it is kept
 pub kept_with_cost : (r : Rules) (i v0 v1 : ℕ) (cost : ℤ) (result : Result ℤ Rule) →

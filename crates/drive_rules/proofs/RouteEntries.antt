@@ -5,10 +5,12 @@ use Rattle.std.specs.Int.RustNames.{unsigned_abs}
 use Rattle.std.proofs.lemmas.Bool.{cases_lt, lt-ltb, le-ltb}
 use Rattle.rail_specs.specs.declared.RouteFault.TheVariants.{Range}
 use Rattle.rail_specs.specs.declared.StepNumbers.{StepNumbers}
+use Rattle.rail_specs.specs.declared.TrainNumbers.{TrainNumbers}
 use Rattle.rail_specs.specs.Lines.{number, numbers_after}
-use Rattle.rail_specs.specs.Route.{is_light_step, is_within, step_fault, step_of, step_on, unless}
-use Rattle.drive_rules.specs.declared.route.data.TrainNumbers.{TrainNumbers}
-use Rattle.drive_rules.specs.RouteParts.{numbers_with, step_line}
+use Rattle.rail_specs.specs.Route.{is_light_step, step_fault, step_of, step_on, unless}
+use Rattle.rail_specs.specs.Numbers.{is_within}
+use Rattle.rail_specs.specs.Step.{step_of_train}
+use Rattle.drive_rules.specs.RouteParts.{step_line}
 
 -- a step whose line is of its form, and one of whose numbers is out of range
 pub step-refused : (t : TrainNumbers) (n : ℕ) (line : List ℕ) (ns : List ℤ) → n ≤ 4006 → numbers_after (codes "step ") 3 line ≡ Some ns → is_light_step t.inertia t.c ns ≡ false →
@@ -38,7 +40,7 @@ drag-refused t n line ns h e f = step-refused t n line ns h e (last-false _ _ (l
 -- a step that makes a row
 pub step-made : (t : TrainNumbers) (n : ℕ) (line : List ℕ) (ns : List ℤ) (row : StepNumbers) (limit : ℕ) → n ≤ 4006 → numbers_after (codes "step ") 3 line ≡ Some ns →
     (is_within (pos 1) (pos 1000) (number ns 0) && is_within (negsuc 999) (pos 1000) (number ns 1)) ≡ true → is_within (pos 1) (pos 12000) (number ns 2) ≡ true →
-    (10000 * t.inertia ≤ t.c * unsigned_abs (number ns 0) → false ≡ true) → row ≡ numbers_with t (unsigned_abs (number ns 0)) (number ns 1) → limit ≡ unsigned_abs (number ns 2) →
+    (10000 * t.inertia ≤ t.c * unsigned_abs (number ns 0) → false ≡ true) → row ≡ step_of_train t (unsigned_abs (number ns 0)) (number ns 1) → limit ≡ unsigned_abs (number ns 2) →
     Ok (record { row = row; limit = limit }) ≡ unless (step_fault t.inertia t.c n line) (step_line t (step_on line))
 step-made t n line ns row limit h e ab d drag r l = elim (cases_lt (t.c * unsigned_abs (number ns 0)) (10000 * t.inertia)) [
   | inl less ↦ (let light : is_light_step t.inertia t.c ns ≡ true = rw (ab, d, lt-ltb (t.c * unsigned_abs (number ns 0)) (10000 * t.inertia) less) refl in

@@ -6,9 +6,11 @@ use Rattle.std.proofs.lemmas.Bool.Decides.{nat_tests}
 use Rattle.std.proofs.lemmas.Int.{ints}
 use Rattle.std.specs.Str.{bytes_eq}
 use Rattle.std.specs.List.{AllByRecursion}
-use Rattle.rail_specs.specs.First.{first_in, first_of}
+use Rattle.rail_specs.specs.First.{first_in}
+use Rattle.std.specs.Option.{option_or}
 use Rattle.rail_specs.specs.Lines.{numbers_after}
 use Rattle.rail_specs.specs.Route.{RouteStep, behind_faults, end_fault, entry_faults, form_then_range, is_light_step, is_step_line, step_fault, step_of, step_on, steps_on}
+use Rattle.drive_rules.proofs.VerdictLemmas.{option_or-none}
 
 -- a step of a train with this inertia mass and coefficient c is in range, and its drag is small
 pub record IsGoodStep (inertia c : ℕ) (s : RouteStep) : Type 0 where
@@ -33,10 +35,6 @@ step-good inertia c n line h = elim (cases_Bool (ltb 4006 n)) [
   | inr few ↦ (form-good inertia c n (numbers_after (codes "step ") 3 line) (rw few at h), ltb-false 4006 n few)
 ]
 
-first_of-none : {X : Type 0} (a b : Option X) → first_of a b ≡ None → (a ≡ None) × (b ≡ None)
-first_of-none None b h = (refl, h)
-first_of-none (Some x) b h = absurd (cc h)
-
 -- the steps on lines without a fault, from line n on
 pub record AreGoodSteps (inertia c n : ℕ) (ss : List RouteStep) : Type 0 where
   pub good : AllByRecursion (IsGoodStep inertia c) ss
@@ -54,18 +52,18 @@ none-behind n [] h = refl
 none-behind n (line ∷ ls) h = absurd (cc h)
 
 faults-step : (inertia c n : ℕ) (line : List ℕ) (ls : List (List ℕ)) → is_step_line line ≡ true →
-    first_in (entry_faults inertia c n (line ∷ ls)) ≡ first_of (step_fault inertia c n line) (first_in (entry_faults inertia c (n + 1) ls))
+    first_in (entry_faults inertia c n (line ∷ ls)) ≡ option_or (step_fault inertia c n line) (first_in (entry_faults inertia c (n + 1) ls))
 faults-step inertia c n line ls step = rw step refl
 
 pub faultless : (inertia c n : ℕ) (ls : List (List ℕ)) → n ≤ 4007 → first_in (entry_faults inertia c n ls) ≡ None → AreGoodSteps inertia c n (steps_on ls)
 faultless inertia c n [] small h = absurd (cc h)
 faultless inertia c n (line ∷ ls) small h = elim (cases_Bool (is_step_line line)) [
-  | inl step ↦ (let g = first_of-none (step_fault inertia c n line) (first_in (entry_faults inertia c (n + 1) ls)) (sym (faults-step inertia c n line ls step) ∙ h) in
+  | inl step ↦ (let g = option_or-none (step_fault inertia c n line) (first_in (entry_faults inertia c (n + 1) ls)) (sym (faults-step inertia c n line ls step) ∙ h) in
       let s = step-good inertia c n line g.0 in
       let f = faultless inertia c (n + 1) ls (omega (arith, s.1)) g.1 in
       rw step record { good = (s.0, f.good); some = omega (arith, f.some); few = omega (arith, f.few) })
   | inr other ↦ elim (cases_Bool (bytes_eq line (codes "end"))) [
-    | inl end ↦ (let g = first_of-none (end_fault n) (first_in (behind_faults (n + 1) ls)) (rw (other, end) at h) in
+    | inl end ↦ (let g = option_or-none (end_fault n) (first_in (behind_faults (n + 1) ls)) (rw (other, end) at h) in
         let e = none-behind (n + 1) ls g.1 in
         rw (other, e) record { good = tt; some = omega (arith, end-good n g.0); few = omega arith })
     | inr bad ↦ (let g = rw (other, bad) at h in absurd (cc g))

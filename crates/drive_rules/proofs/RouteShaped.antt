@@ -10,23 +10,19 @@ use Rattle.std.proofs.lemmas.List.Elements.{All-from_recursion, All-get_or, All-
 use Rattle.rail_specs.specs.declared.Timing.{Timing}
 use Rattle.rail_specs.specs.Route.{Route, RouteStep, ends_from, rules_of_route, step_numbers}
 use Rattle.rail_specs.specs.Rules.{no_step, step_at, IsPassed}
-use Rattle.rail_specs.specs.Step.{HasSmallDrag, IsInRange}
+use Rattle.rail_specs.specs.Step.{HasSmallDrag, IsInRange, IsTrainInRange}
 use Rattle.rail_specs.specs.Table.{IsForceTable}
 use Rattle.drive_rules.specs.Shaped.{IsShaped}
 use Rattle.drive_rules.proofs.RouteFaultless.{IsGoodStep}
 
 -- what a route says is in range
 pub record IsRoute (r : Route) : Type 0 where
-  pub mass : (1 ≤ r.mass) × (r.mass ≤ 100000)
-  pub inertia : (1 ≤ r.inertia) × (r.inertia ≤ 120000)
-  pub a : r.a ≤ 10000000
-  pub b : r.b ≤ 10000000
-  pub c : r.c ≤ 10000000
+  pub train : IsTrainInRange r.train
   pub top : (1 ≤ r.top) × (r.top ≤ 12000)
   pub traction : r.traction ≤ 2000000
   pub brake : r.brake ≤ 2000000
   pub latest : r.latest ≤ 172800
-  pub good : AllByRecursion (IsGoodStep r.inertia r.c) r.steps
+  pub good : AllByRecursion (IsGoodStep r.train.inertia r.train.c) r.steps
   pub some : 2 ≤ length r.steps
   pub few : length r.steps ≤ 4000
 
@@ -69,16 +65,16 @@ ends_from-far p (x ∷ xs) zero h = omega (arith, h.0)
 ends_from-far p (x ∷ xs) (suc k) h = omega (arith, h.0, ends_from-far (p + x) xs k h.1)
 
 -- the steps of a route are good
-good_step : (r : Route) (i : ℕ) → IsRoute r → i < length r.steps → IsGoodStep r.inertia r.c (get_or r.steps i a_step)
-good_step r i h l = All-get_or (IsGoodStep r.inertia r.c) r.steps i a_step l (All-from_recursion (IsGoodStep r.inertia r.c) r.steps h.good)
+good_step : (r : Route) (i : ℕ) → IsRoute r → i < length r.steps → IsGoodStep r.train.inertia r.train.c (get_or r.steps i a_step)
+good_step r i h l = All-get_or (IsGoodStep r.train.inertia r.train.c) r.steps i a_step l (All-from_recursion (IsGoodStep r.train.inertia r.train.c) r.steps h.good)
 
-step_at-route : (r : Route) (i : ℕ) → i < length r.steps → step_at (rules_of_route r) i ≡ step_numbers r (get_or r.steps i a_step)
-step_at-route r i l = get_or-map (step_numbers r) r.steps i a_step no_step l
+step_at-route : (r : Route) (i : ℕ) → i < length r.steps → step_at (rules_of_route r) i ≡ step_numbers r.train (get_or r.steps i a_step)
+step_at-route r i l = get_or-map (step_numbers r.train) r.steps i a_step no_step l
 
 step_in_range : (r : Route) (i : ℕ) → IsRoute r → i < length r.steps → IsInRange (step_at (rules_of_route r) i)
 step_in_range r i h l =
     let g = good_step r i h l in
-    rw (step_at-route r i l) record { mass = h.mass; inertia = h.inertia; a = h.a; b = h.b; c = h.c; metres = g.metres; gradient = g.gradient }
+    rw (step_at-route r i l) record { train = h.train; metres = g.metres; gradient = g.gradient }
 
 step_light : (r : Route) (i : ℕ) → IsRoute r → i < length r.steps → HasSmallDrag (step_at (rules_of_route r) i)
 step_light r i h l = rw (step_at-route r i l) (good_step r i h l).drag
@@ -97,7 +93,7 @@ metres_of r = map (λ s. s.metres) r.steps
 
 place_far : (r : Route) (k : ℕ) → IsRoute r → get_or (0 ∷ ends_from 0 (metres_of r)) k 0 ≤ 4000000
 place_far r zero h = omega arith
-place_far r (suc k) h = omega (arith, ends_from-far 0 (metres_of r) k (short_steps r.inertia r.c r.steps h.good), length-map r.steps (λ s. s.metres), h.few)
+place_far r (suc k) h = omega (arith, ends_from-far 0 (metres_of r) k (short_steps r.train.inertia r.train.c r.steps h.good), length-map r.steps (λ s. s.metres), h.few)
 
 place_next : (r : Route) (i : ℕ) → i < length r.steps → get_or (0 ∷ ends_from 0 (metres_of r)) (i + 1) 0 ≡ get_or (0 ∷ ends_from 0 (metres_of r)) i 0 + (step_at (rules_of_route r) i).metres
 place_next r i l =
@@ -123,16 +119,16 @@ route_moves r h i v0 v1 l entry exit = elim (cases_lt (i + 1) (length r.steps)) 
 abbrev IsLater : ℕ → Timing → Type 0
 IsLater n t = (1 ≤ t.point) × (t.point ≤ n) × (unsigned_abs t.latest ≤ 172800000)
 
-route_timings : (r : Route) → IsRoute r → All (IsLater (length (map (step_numbers r) r.steps))) (record { point = length r.steps; latest = pos (1000 * r.latest) } ∷ [])
+route_timings : (r : Route) → IsRoute r → All (IsLater (length (map (step_numbers r.train) r.steps))) (record { point = length r.steps; latest = pos (1000 * r.latest) } ∷ [])
 route_timings r h =
-    let steps : length (map (step_numbers r) r.steps) ≡ length r.steps = length-map r.steps (step_numbers r) in
+    let steps : length (map (step_numbers r.train) r.steps) ≡ length r.steps = length-map r.steps (step_numbers r.train) in
     let last : Timing = record { point = length r.steps; latest = pos (1000 * r.latest) } in
-    All-cons (IsLater (length (map (step_numbers r) r.steps))) last [] (omega (arith, h.some), omega (arith, steps), omega (arith, h.latest)) (All-nil (IsLater (length (map (step_numbers r) r.steps))))
+    All-cons (IsLater (length (map (step_numbers r.train) r.steps))) last [] (omega (arith, h.some), omega (arith, steps), omega (arith, h.latest)) (All-nil (IsLater (length (map (step_numbers r.train) r.steps))))
 
 pub shaped : (r : Route) → IsRoute r → IsShaped (rules_of_route r)
 shaped r h =
     let n : ℕ = length r.steps in
-    let steps : length (map (step_numbers r) r.steps) ≡ length r.steps = length-map r.steps (step_numbers r) in
+    let steps : length (map (step_numbers r.train) r.steps) ≡ length r.steps = length-map r.steps (step_numbers r.train) in
     record {
       some = omega (arith, steps, h.some);
       few = omega (arith, steps, h.few);
@@ -145,7 +141,7 @@ shaped r h =
       numbers = λ i l. step_in_range r i h (omega (arith, steps));
       small_drag = λ i l. step_light r i h (omega (arith, steps));
       limits = length-map r.steps (λ s. s.limit) ∙ sym steps;
-      low_limits = λ i. low_limit r.inertia r.c r.steps i h.good;
+      low_limits = λ i. low_limit r.train.inertia r.train.c r.steps i h.good;
       places = omega (arith, steps, length-ends_from 0 (metres_of r), length-map r.steps (λ s. s.metres));
       far = λ k. place_far r k h;
       metres = λ i l. place_next r i (omega (arith, steps));

@@ -4,7 +4,8 @@ use Rattle.std.proofs.lemmas.List.{append-nil, length-map, take-append-drop}
 use Rattle.std.proofs.lemmas.List.Sums.{sum_by-append}
 use Rattle.rail_specs.specs.declared.RouteFault.{RouteFault}
 use Rattle.rail_specs.specs.declared.RouteFault.TheVariants.{Form, Range, TooManySteps, NoMemory}
-use Rattle.rail_specs.specs.First.{first_in, first_of}
+use Rattle.std.specs.Option.{option_or}
+use Rattle.rail_specs.specs.First.{first_in}
 use Rattle.rail_specs.specs.Lines.{size}
 use Rattle.rail_specs.specs.Route.{Route, entry_faults, ends_from, heading_faults, line_faults, route_in, rules_of_read, rules_of_route, step_numbers, steps_on, train_line, unless}
 use Rattle.rail_specs.specs.Rules.{Rules}
@@ -16,13 +17,13 @@ use Rattle.drive_rules.proofs.RouteHeading.{unless-err, unless-ok}
 use Rattle.drive_rules.proofs.RouteFaultless.{faultless}
 use Rattle.drive_rules.proofs.RouteShaped.{shaped, IsRoute}
 
-first_of-first_of : {X : Type 0} (a b c : Option X) → first_of a (first_of b c) ≡ first_of (first_of a b) c
-first_of-first_of None b c = refl
-first_of-first_of (Some x) b c = refl
+option_or-option_or : {X : Type 0} (a b c : Option X) → option_or a (option_or b c) ≡ option_or (option_or a b) c
+option_or-option_or None b c = refl
+option_or-option_or (Some x) b c = refl
 
-first_in-append : {X : Type 0} (xs ys : List (Option X)) → first_in (xs ++ ys) ≡ first_of (first_in xs) (first_in ys)
+first_in-append : {X : Type 0} (xs ys : List (Option X)) → first_in (xs ++ ys) ≡ option_or (first_in xs) (first_in ys)
 first_in-append [] ys = refl
-first_in-append (x ∷ xs) ys = ap (λ (o : Option _). first_of x o) (first_in-append xs ys) ∙ first_of-first_of x (first_in xs) (first_in ys)
+first_in-append (x ∷ xs) ys = ap (λ (o : Option _). option_or x o) (first_in-append xs ys) ∙ option_or-option_or x (first_in xs) (first_in ys)
 
 -- the first fault of the lines behind the heading
 abbrev pub entries_fault : List (List ℕ) → Option RouteFault
@@ -31,19 +32,19 @@ entries_fault ls = first_in (entry_faults (size (train_line ls) 1) (size (train_
 abbrev pub rules_on : List (List ℕ) → Result Rules RouteFault
 rules_on ls = rules_of_read (unless (first_in (line_faults ls)) (route_in ls))
 
-text_fault : (ls : List (List ℕ)) → first_in (line_faults ls) ≡ first_of (first_in (heading_faults ls)) (entries_fault ls)
+text_fault : (ls : List (List ℕ)) → first_in (line_faults ls) ≡ option_or (first_in (heading_faults ls)) (entries_fault ls)
 text_fault ls = first_in-append (heading_faults ls) (entry_faults (size (train_line ls) 1) (size (train_line ls) 4) 7 (drop 6 ls))
 
-with_fault : (ls : List (List ℕ)) (o : Option RouteFault) → first_of (first_in (heading_faults ls)) (entries_fault ls) ≡ o → rules_of_read (unless o (route_in ls)) ≡ rules_on ls
+with_fault : (ls : List (List ℕ)) (o : Option RouteFault) → option_or (first_in (heading_faults ls)) (entries_fault ls) ≡ o → rules_of_read (unless o (route_in ls)) ≡ rules_on ls
 with_fault ls o h = sym (ap (λ (f : Option RouteFault). rules_of_read (unless f (route_in ls))) (text_fault ls ∙ h))
 
 -- a fault of the heading is that of the text
 pub heading_refused : (ls : List (List ℕ)) (e : RouteFault) → Err e ≡ unless (first_in (heading_faults ls)) (heading_of ls) → Err e ≡ rules_on ls
 heading_refused ls e h =
-    with_fault ls (Some e) (ap (λ (o : Option RouteFault). first_of o (entries_fault ls)) (unless-err (first_in (heading_faults ls)) (heading_of ls) e h))
+    with_fault ls (Some e) (ap (λ (o : Option RouteFault). option_or o (entries_fault ls)) (unless-err (first_in (heading_faults ls)) (heading_of ls) e h))
 
-behind_heading : (ls : List (List ℕ)) (h : Heading) → Ok h ≡ unless (first_in (heading_faults ls)) (heading_of ls) → first_of (first_in (heading_faults ls)) (entries_fault ls) ≡ entries_fault ls
-behind_heading ls h e = ap (λ (o : Option RouteFault). first_of o (entries_fault ls)) (unless-ok (first_in (heading_faults ls)) (heading_of ls) h e).0
+behind_heading : (ls : List (List ℕ)) (h : Heading) → Ok h ≡ unless (first_in (heading_faults ls)) (heading_of ls) → option_or (first_in (heading_faults ls)) (entries_fault ls) ≡ entries_fault ls
+behind_heading ls h e = ap (λ (o : Option RouteFault). option_or o (entries_fault ls)) (unless-ok (first_in (heading_faults ls)) (heading_of ls) h e).0
 
 answer_is : (e : RouteFault) (fault : Option RouteFault) → AnswersFault {A = StepLists} (Err e) fault → (e ≡ NoMemory → ⊥) → fault ≡ Some e
 answer_is (Form n) fault h other = h
@@ -75,11 +76,7 @@ route_good ls h left b none =
     let i : IsHeading (heading_of ls) = subst IsHeading same b.in_range in
     let g = faultless (size (train_line ls) 1) (size (train_line ls) 4) 7 (drop 6 ls) (omega arith) none in
     record {
-      mass = i.train.mass;
-      inertia = i.train.inertia;
-      a = i.train.a;
-      b = i.train.b;
-      c = i.train.c;
+      train = i.train;
       top = i.top;
       traction = i.traction;
       brake = i.brake;
@@ -93,10 +90,10 @@ route_good ls h left b none =
 rules_same : (ls : List (List ℕ)) (lists : StepLists) → HasSteps (heading_of ls).train (steps_on (drop 6 ls)) [] lists → rules_with (heading_of ls) lists ≡ rules_of_route (route_in ls)
 rules_same ls lists h =
     let r : Route = route_in ls in
-    let rows : lists.rows.items ≡ map (step_numbers r) r.steps = sym (h.rows ∙ append-nil lists.rows.items) in
+    let rows : lists.rows.items ≡ map (step_numbers r.train) r.steps = sym (h.rows ∙ append-nil lists.rows.items) in
     let limits : lists.limits.items ≡ map (λ s. s.limit) r.steps = sym (h.limits ∙ append-nil lists.limits.items) in
     let places : lists.places.items ≡ 0 ∷ ends_from 0 (map (λ s. s.metres) r.steps) = sym (h.places ∙ append-nil lists.places.items) in
-    rw (rows, limits, places, length-map r.steps (step_numbers r)) refl
+    rw (rows, limits, places, length-map r.steps (step_numbers r.train)) refl
 
 pub record Makes (ls : List (List ℕ)) (h : Heading) (lists : StepLists) : Type 0 where
   pub few : length lists.rows.items ≤ 4000
@@ -111,9 +108,9 @@ makes ls h left lists b a read =
     let good = route_good ls h left b none in
     let steps : HasSteps (heading_of ls).train (steps_on (drop 6 ls)) [] lists = rw (same, b.taken) at read in
     let rules : rules_with h lists ≡ rules_of_route (route_in ls) = ap (λ (x : Heading). rules_with x lists) same ∙ rules_same ls lists steps in
-    let rows : lists.rows.items ≡ map (step_numbers (route_in ls)) (route_in ls).steps = sym (steps.rows ∙ append-nil lists.rows.items) in
+    let rows : lists.rows.items ≡ map (step_numbers (route_in ls).train) (route_in ls).steps = sym (steps.rows ∙ append-nil lists.rows.items) in
     record {
-      few = omega (arith, ap length rows, length-map (route_in ls).steps (step_numbers (route_in ls)), good.few);
+      few = omega (arith, ap length rows, length-map (route_in ls).steps (step_numbers (route_in ls).train), good.few);
       shaped = subst IsShaped (sym rules) (shaped (route_in ls) good);
       rules = ap (λ (x : Rules). Ok x) rules ∙ with_fault ls None (behind_heading ls h b.heading ∙ none);
     }

@@ -7,10 +7,16 @@ use Rattle.rail_specs.specs.Cost.{int_sum_below}
 use Rattle.std.specs.Prelude.{List, slice_index}
 use Rattle.rail_specs.specs.Rules.{Rules}
 use Rattle.drive_rules.specs.declared.judge.Rule.{Rule}
-use Rattle.rail_specs.specs.First.{first_of}
-use Rattle.drive_rules.specs.Verdict.{first_below, step_rule, step_fault}
+use Rattle.std.specs.Option.{option_or}
+use Rattle.rail_specs.specs.First.{first_below}
+use Rattle.drive_rules.specs.Verdict.{step_rule, step_fault}
 
-pub first_below-next : {X : Type 0} (f : ℕ → Option X) (n : ℕ) → first_below f (n + 1) ≡ first_of (first_below f n) (f n)
+-- where there is no first of two, there is neither
+pub option_or-none : {X : Type 0} (a b : Option X) → option_or a b ≡ None → (a ≡ None) × (b ≡ None)
+option_or-none None b h = (refl, h)
+option_or-none (Some x) b h = absurd (cc h)
+
+pub first_below-next : {X : Type 0} (f : ℕ → Option X) (n : ℕ) → first_below f (n + 1) ≡ option_or (first_below f n) (f n)
 first_below-next f n = rw (add-one n) refl
 
 pub first_below-found : {X : Type 0} (f : ℕ → Option X) (i n : ℕ) (x : X) → first_below f i ≡ None → f i ≡ Some x → i < n → first_below f n ≡ Some x

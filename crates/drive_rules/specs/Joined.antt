@@ -4,6 +4,7 @@ use Rattle.rail_specs.specs.declared.StepNumbers.{StepNumbers}
 use Rattle.rail_specs.specs.declared.Timing.{Timing}
 use Rattle.rail_specs.specs.Grid.{IsGrid}
 use Rattle.rail_specs.specs.Rules.{Rules, is_stop, step_at, no_timing}
+use Rattle.rail_specs.specs.Step.{train_of_step}
 use Rattle.line_file.specs.declared.sections.Section.{Section}
 use Rattle.line_file.specs.declared.calls.Call.{Call}
 use Rattle.line_file.specs.declared.line.Line.{Line}
@@ -12,6 +13,7 @@ use Rattle.line_file.specs.LineText.{first_from, last_to}
 use Rattle.line_file.specs.ServiceText.{last_call}
 use Rattle.line_file.specs.Shape.{section_at, call_at}
 use Rattle.train_file.specs.declared.train.Train.{Train}
+use Rattle.train_file.specs.Shape.{numbers_of}
 use Rattle.drive_rules.specs.declared.setup.Stretch.{Stretch}
 use Rattle.drive_rules.specs.declared.setup.Setup.{Setup}
 use Rattle.distance_grid.specs.Answer.{IsShortGrid, IsLongGrid}
@@ -75,13 +77,9 @@ pub record IsLeastLimit (sections : List Section) (stretches : List Stretch) (s 
       ((k : ℕ) × (k < length sections) × Meets (section_at sections k).from (section_at sections k).to s e × (pos v ≡ (section_at sections k).value))
       ⊎ ((k : ℕ) × (k < length stretches) × Meets (stretch_at stretches k).from (stretch_at stretches k).to s e × (v ≡ (stretch_at stretches k).limit))
 
--- the numbers of the step from s to e of a train: its length, and the gradient of the section in which it lies
+-- the numbers of the step from s to e of a train: the train's own, the step's length, and the gradient of the section in which it lies
 pub record IsStepOf (train : Train) (gradients : List Section) (s e : ℕ) (n : StepNumbers) : Type 0 where
-  pub mass : n.mass ≡ train.mass
-  pub inertia : n.inertia ≡ train.inertia
-  pub a : n.a ≡ train.a
-  pub b : n.b ≡ train.b
-  pub c : n.c ≡ train.c
+  pub train_is : train_of_step n ≡ numbers_of train
   pub metres : e ≡ s + n.metres
   pub gradient : LiesIn gradients s e n.gradient
 

@@ -8,8 +8,9 @@ use Rattle.line_file.specs.Shape.{section_at, call_at}
 use Rattle.drive_rules.specs.declared.setup.Stretch.{Stretch}
 use Rattle.rail_specs.specs.declared.StepNumbers.{StepNumbers}
 use Rattle.rail_specs.specs.Rules.{no_step}
-use Rattle.rail_specs.specs.Step.{HasSmallDrag}
+use Rattle.rail_specs.specs.Step.{step_of_train}
 use Rattle.train_file.specs.declared.train.Train.{Train}
+use Rattle.train_file.specs.Shape.{numbers_of}
 use Rattle.drive_rules.specs.declared.joined.fault.RulesFault.{RulesFault}
 use Rattle.drive_rules.specs.declared.joined.fault.RulesFault.TheVariants as fault
 use Rattle.drive_rules.specs.Joined.{stretch_at, Meets, LiesIn, IsCallAt, IsTooGreat, IsFirst}
@@ -65,14 +66,10 @@ IsCloseStop stops start k = (slice_index_or stops (k + 1) false ≡ true) × ((s
 abbrev pub NoneClose : List Bool → ℕ → ℕ → Type 0
 NoneClose stops start n = (k : ℕ) → k < n → IsCloseStop stops start k → ⊥
 
--- the numbers of a train's step of this length and gradient
-abbrev pub numbers_of : Train → ℕ → ℤ → StepNumbers
-numbers_of t metres gradient = record { mass = t.mass; inertia = t.inertia; a = t.a; b = t.b; c = t.c; metres = metres; gradient = gradient }
-
 -- for each step its numbers, none with too great a drag
 pub record AreRows (train : Train) (gradients : List ℤ) (places : List ℕ) (rows : List StepNumbers) : Type 0 where
   pub count : length rows ≡ length gradients
-  pub each : (i : ℕ) → i < length rows → slice_index_or rows i no_step ≡ numbers_of train (slice_index places (i + 1) - slice_index places i) (slice_index_or gradients i (pos 0))
+  pub each : (i : ℕ) → i < length rows → slice_index_or rows i no_step ≡ step_of_train (numbers_of train) (slice_index places (i + 1) - slice_index places i) (slice_index_or gradients i (pos 0))
   pub light : (i : ℕ) → i < length rows → IsTooGreat train places i → ⊥
 
 -- the refusal is for the first step with too great a drag; memory may run out

@@ -5,7 +5,7 @@ use Rattle.line_file.specs.declared.calls.Call.{Call}
 use Rattle.line_file.specs.declared.line.Line.{Line}
 use Rattle.line_file.specs.declared.service.Service.{Service}
 use Rattle.train_file.specs.declared.train.Train.{Train}
-use Rattle.distance_grid.specs.Answer.{IsShortGrid, IsLongGrid}
+use Rattle.distance_grid.specs.Answer.{IsLongGrid}
 use Rattle.drive_rules.specs.declared.setup.Setup.{Setup}
 use Rattle.drive_rules.specs.declared.joined.layout.Layout.{Layout}
 use Rattle.drive_rules.specs.declared.joined.course.Course.{Course}

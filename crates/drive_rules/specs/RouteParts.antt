@@ -1,31 +1,20 @@
 -- What the parts of a route's text give, as they are read one after another.
-use Rattle.std.specs.Prelude.{ℕ, ◌+◌, ◌*◌, ◌≡◌, ◌≤◌, ℤ, true, false, List, [], ◌∷◌, ◌++◌, Option, Some, None, Result, Ok, Err, map, codes, pos, length, replicate, if◌then◌else◌}
+use Rattle.std.specs.Prelude.{ℕ, ◌+◌, ◌*◌, ◌≡◌, ◌≤◌, true, false, List, [], ◌∷◌, ◌++◌, Option, Some, None, Result, Ok, Err, map, codes, pos, length, replicate, if◌then◌else◌}
 use Rattle.std.specs.Str.{bytes_eq}
 use Rattle.rail_specs.specs.declared.RouteFault.{RouteFault}
 use Rattle.rail_specs.specs.declared.RouteFault.TheVariants.{NoMemory}
 use Rattle.rail_specs.specs.declared.StepNumbers.{StepNumbers}
+use Rattle.rail_specs.specs.declared.TrainNumbers.{TrainNumbers}
 use Rattle.rail_specs.specs.First.{first_in}
 use Rattle.rail_specs.specs.Lines.{size}
-use Rattle.rail_specs.specs.Route.{RouteStep, train_line, top_line, traction_line, brake_line, latest_line, is_step_line, step_on, step_fault, end_fault, entry_faults, ends_from}
+use Rattle.rail_specs.specs.Route.{RouteStep, train_line, top_line, traction_line, brake_line, latest_line, train_numbers, is_step_line, step_on, step_fault, end_fault, entry_faults, step_numbers, ends_from}
 use Rattle.rail_specs.specs.Rules.{Rules}
-use Rattle.drive_rules.specs.declared.route.data.TrainNumbers.{TrainNumbers}
+use Rattle.rail_specs.specs.Step.{IsTrainInRange}
 use Rattle.drive_rules.specs.declared.route.data.Heading.{Heading}
 use Rattle.drive_rules.specs.declared.route.data.StepLine.{StepLine}
 use Rattle.drive_rules.specs.declared.route.data.StepLists.{StepLists}
 use Rattle.drive_rules.specs.declared.route.data.Entry.{Entry}
 use Rattle.drive_rules.specs.declared.route.data.Entry.TheVariants as entry
-
--- the train of five numbers
-abbrev pub train_numbers : Option (List ℤ) → TrainNumbers
-train_numbers ns = record { mass = size ns 0; inertia = size ns 1; a = size ns 2; b = size ns 3; c = size ns 4 }
-
--- a train's numbers are within their units' ranges
-pub record IsTrain (t : TrainNumbers) : Type 0 where
-  pub mass : (1 ≤ t.mass) × (t.mass ≤ 100000)
-  pub inertia : (1 ≤ t.inertia) × (t.inertia ≤ 120000)
-  pub a : t.a ≤ 10000000
-  pub b : t.b ≤ 10000000
-  pub c : t.c ≤ 10000000
 
 -- what the lines before the steps say
 abbrev pub heading_of : List (List ℕ) → Heading
@@ -39,23 +28,15 @@ heading_of ls = record {
 
 -- what they say is within the units' ranges
 pub record IsHeading (h : Heading) : Type 0 where
-  pub train : IsTrain h.train
+  pub train : IsTrainInRange h.train
   pub top : (1 ≤ h.top) × (h.top ≤ 12000)
   pub traction : h.traction ≤ 2000000
   pub brake : h.brake ≤ 2000000
   pub latest : h.latest ≤ 172800
 
--- the numbers of a train's step of this length and gradient
-abbrev pub numbers_with : TrainNumbers → ℕ → ℤ → StepNumbers
-numbers_with t metres gradient = record { mass = t.mass; inertia = t.inertia; a = t.a; b = t.b; c = t.c; metres = metres; gradient = gradient }
-
--- a step's row
-abbrev pub row_with : TrainNumbers → RouteStep → StepNumbers
-row_with t s = numbers_with t s.metres s.gradient
-
 -- a step's row and limit
 abbrev pub step_line : TrainNumbers → RouteStep → StepLine
-step_line t s = record { row = row_with t s; limit = s.limit }
+step_line t s = record { row = step_numbers t s; limit = s.limit }
 
 -- what line n says, behind the heading and before the end: a step, the end, or its fault
 abbrev pub ReadsEntry : Result Entry RouteFault → TrainNumbers → ℕ → List ℕ → Type 0
@@ -85,7 +66,7 @@ pub record AppendsStep (old new : StepLists) (row : StepNumbers) (limit : ℕ) :
 
 -- the lists have these steps up to those that are left
 pub record HasSteps (t : TrainNumbers) (all left : List RouteStep) (lists : StepLists) : Type 0 where
-  pub rows : map (row_with t) all ≡ lists.rows.items ++ map (row_with t) left
+  pub rows : map (step_numbers t) all ≡ lists.rows.items ++ map (step_numbers t) left
   pub limits : map (λ s. s.limit) all ≡ lists.limits.items ++ map (λ s. s.limit) left
   pub places : 0 ∷ ends_from 0 (map (λ s. s.metres) all) ≡ lists.places.items ++ ends_from lists.end (map (λ s. s.metres) left)
 

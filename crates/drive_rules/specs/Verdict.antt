@@ -1,21 +1,16 @@
 -- The first rule that a list of speeds breaks.
-use Rattle.std.specs.Prelude.{ℕ, suc, zero, ◌+◌, ◌≡◌, ◌<◌, ◌≤◌, ℤ, pos, neg_ℤ, List, length, slice_index, slice_index_or, Option, Some, None, ◌==◌, nat_lt, if◌then◌else◌, ◌||◌}
+use Rattle.std.specs.Prelude.{ℕ, ◌+◌, ◌≡◌, ◌<◌, ◌≤◌, ℤ, pos, neg_ℤ, List, length, slice_index, slice_index_or, Option, Some, None, ◌==◌, nat_lt, if◌then◌else◌, ◌||◌}
 use Rattle.std.specs.Int.RustNames.{int_lt, unsigned_abs}
-use Rattle.std.specs.Option.{option_map}
+use Rattle.std.specs.Option.{option_map, option_or}
 use Rattle.rail_specs.specs.Rules.{Rules, is_stop, step_at, traction_work, brake_work}
 use Rattle.rail_specs.specs.Times.{arrival_up}
 use Rattle.rail_specs.specs.Step.{work}
-use Rattle.rail_specs.specs.First.{first_of}
+use Rattle.rail_specs.specs.First.{first_below}
 use Rattle.rail_specs.specs.Rules.{no_timing}
 use Rattle.drive_rules.specs.declared.judge.Rule.{Rule}
 use Rattle.drive_rules.specs.declared.judge.Rule.TheVariants.{Length, Start, Stop, Standing, Limit, Top, Traction, Brake, Late}
 use Rattle.drive_rules.specs.declared.judge.Judged.{Judged}
 use Rattle.drive_rules.specs.declared.judge.Judged.TheVariants.{Kept, Broken}
-
--- the first among f 0 .. f (n - 1)
-abbrev pub first_below : {X : Type 0} → (ℕ → Option X) → ℕ → Option X
-first_below f zero = None
-first_below f (suc n) = first_of (first_below f n) (f n)
 
 -- the rule that speed v breaks at point k
 abbrev pub point_rule : Rules → ℕ → ℕ → Option Rule
@@ -55,8 +50,8 @@ timing_fault r speeds j =
 abbrev pub verdict : Rules → List ℕ → Option (Rule × ℕ)
 verdict r speeds =
     if length speeds == length r.steps + 1 then
-    first_of (first_below (point_fault r speeds) (length speeds))
-    (first_of (first_below (step_fault r speeds) (length r.steps)) (first_below (timing_fault r speeds) (length r.timings)))
+    option_or (first_below (point_fault r speeds) (length speeds))
+    (option_or (first_below (step_fault r speeds) (length r.steps)) (first_below (timing_fault r speeds) (length r.timings)))
     else Some (Length, 0)
 
 -- no step begins and ends at a standstill

@@ -1,11 +1,12 @@
 //! The judge of any list of speeds.
 ghost use Rattle.std.specs.Prelude.{◌≡◌, ℕ, ◌+◌, ◌-◌, ◌*◌, ◌<◌, ◌≤◌, ◌↔◌, ◌^◌, ℤ, pos, length, slice_index, MatchResult, IfOk, IfErr, None, Some};
 ghost use Rattle.std.specs.Int.RustNames.{unsigned_abs};
+ghost use Rattle.rail_specs.specs.First.{first_below};
 ghost use Rattle.rail_specs.specs.Rules.{IsDrive, step_at};
 ghost use Rattle.rail_specs.specs.Times.{arrival_up, IsOnTimeUp};
 ghost use Rattle.rail_specs.specs.Cost.{cost_of};
 ghost use Rattle.rail_specs.specs.Step.{work};
-ghost use Rattle.drive_rules.specs.Verdict.{point_rule, step_rule, first_below, point_fault, step_fault, timing_fault, verdict, Judges, IsKept, CostsAtMost, Moves};
+ghost use Rattle.drive_rules.specs.Verdict.{point_rule, step_rule, point_fault, step_fault, timing_fault, verdict, Judges, IsKept, CostsAtMost, Moves};
 
 use crate::rules::Rules;
 use rail_base::StepCost;

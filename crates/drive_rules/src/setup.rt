@@ -1,12 +1,12 @@
 //! From where a train goes on: its place, speed and clock, and the stretches on which it must be slower.
 
-ghost use Rattle.std.specs.Prelude.{◌≡◌, ◌<◌, ◌≤◌, ◌∷◌, ◌++◌, [], is_ok, if◌then◌else◌, length, slice_set};
+ghost use Rattle.std.specs.Prelude.{◌≡◌, ◌<◌, ◌≤◌, [], length};
 ghost use Rattle.drive_rules.specs.Joined.{IsSetup, first_place};
 ghost use Rattle.line_file.specs.Shape.{IsService};
 
 use line_file::Service;
-use std::alloc::{AllocError, Global};
-use std::marker::Model;
+use rail_base::ItemList;
+use std::alloc::Global;
 
 /// A stretch of the line with a lower speed limit.
 #[derive(Clone, Copy, Debug, PartialEq, Eq)]

@@ -18,7 +18,7 @@ impl Rules {
         requires speed { v1 ≤ self.now.top }
         ensures { result ≡ pos (traction_work self.now i v1) }
     {
-        self.traction_limit(i, v1) as i128
+        self.parts.rows[i].force_work(self.parts.traction.at(v1)) as i128
     }
 
     /// The most work that the brakes take over step i, at the force of the entry speed v0, in 0.5 microjoule.
@@ -28,27 +28,7 @@ impl Rules {
         ensures value { result ≡ pos (brake_work self.now i v0) }
         ensures small { result ≤ℤ pos (2 ^ 62) }
     {
-        self.brake_limit(i, v0) as i128
-    }
-
-    /// `traction_work` in 64 bits.
-    fn traction_limit(&self, i: usize, v1: u16) -> i64
-        requires step { i < length self.now.steps }
-        requires speed { v1 ≤ self.now.top }
-        ensures value { result ≡ pos (traction_work self.now i v1) }
-        ensures small { unsigned_abs result ≤ 4000000000000000 }
-    {
-        self.parts.rows[i].force_work(self.parts.traction.at(v1))
-    }
-
-    /// `brake_work` in 64 bits.
-    fn brake_limit(&self, i: usize, v0: u16) -> i64
-        requires step { i < length self.now.steps }
-        requires speed { v0 ≤ self.now.top }
-        ensures value { result ≡ pos (brake_work self.now i v0) }
-        ensures small { unsigned_abs result ≤ 4000000000000000 }
-    {
-        self.parts.rows[i].force_work(self.parts.brake.at(v0))
+        self.parts.rows[i].force_work(self.parts.brake.at(v0)) as i128
     }
 
     /// The cost of step i's work from v0 to v1, or the first of its rules that these speeds break.
@@ -72,7 +52,7 @@ impl Rules {
         if fastest > self.parts.top {
             return Err(Rule::Top);
         }
-        self.force_cost(i, v0, v1, row.short_work(v0, v1), cost)
+        self.force_cost(i, row, v0, v1, row.short_work(v0, v1), cost)
     }
 
     /// The cost of step i's work, or the first rule on forces that it breaks from v0 to v1.
@@ -82,12 +62,14 @@ impl Rules {
     fn force_cost<C: StepCost>(
         &self,
         i: usize,
+        row: &StepRow,
         v0: u16,
         v1: u16,
         work: i64,
         cost: &C,
     ) -> Result<i128, Rule>
         requires step { i < length self.now.steps }
+        requires row { row.now ≡ step_at self.now i }
         requires entry { v0 ≤ self.now.top }
         requires exit { v1 ≤ self.now.top }
         requires known { work ≡ work_of (step_at self.now i) v0 v1 }
@@ -96,12 +78,12 @@ impl Rules {
         ensures broken { IfErr result (λ rule. force_rule self.now i v0 v1 ≡ Some rule) }
     {
         if work > 0 {
-            if work > self.traction_limit(i, v1) {
+            if !row.is_pulled(work, self.parts.traction.at(v1)) {
                 return Err(Rule::Traction);
             }
             Ok(cost_of_work(work, cost))
         } else {
-            if !is_held(work, self.brake_limit(i, v0)) {
+            if !row.is_held(work, self.parts.brake.at(v0)) {
                 return Err(Rule::Brake);
             }
             Ok(cost_of_work(work, cost))
@@ -123,7 +105,8 @@ impl Rules {
         requires exit { v1 ≤ self.now.top }
         ensures { IsTrue result ↔ (work (step_at self.now i) v0 v1 ≤ℤ pos (traction_work self.now i v1)) }
     {
-        self.parts.rows[i].short_work(v0, v1) <= self.traction_limit(i, v1)
+        let row = &self.parts.rows[i];
+        row.is_pulled(row.short_work(v0, v1), self.parts.traction.at(v1))
     }
 
     /// Whether the brakes hold the train over step i from v0 to v1, whatever the limit.
@@ -133,8 +116,8 @@ impl Rules {
         requires exit { v1 ≤ self.now.top }
         ensures { IsTrue result ↔ (neg_ℤ (pos (brake_work self.now i v0)) ≤ℤ work (step_at self.now i) v0 v1) }
     {
-        let work = self.parts.rows[i].short_work(v0, v1);
-        is_held(work, self.brake_limit(i, v0))
+        let row = &self.parts.rows[i];
+        row.is_held(row.short_work(v0, v1), self.parts.brake.at(v0))
     }
 
     /// Whether step i from v0 to v1 needs no traction: its work is at most 0.
@@ -146,15 +129,6 @@ impl Rules {
     {
         self.parts.rows[i].short_work(v0, v1) <= 0
     }
-}
-
-/// Whether brakes that take so much work hold the train at this work.
-fn is_held(work: i64, most: i64) -> bool
-    requires work { unsigned_abs work < 2 ^ 62 }
-    requires most { unsigned_abs most ≤ 4000000000000000 }
-    ensures { IsTrue result ↔ (neg_ℤ most ≤ℤ work) }
-{
-    work + most >= 0
 }
 
 /// The cost of work.

@@ -1,9 +1,9 @@
 //! The rows of the steps.
 
 ghost use Rattle.std.specs.Prelude.{◌≡◌, ◌+◌, ◌<◌, ◌≤◌, ℕ, ℤ, pos, negsuc, ◌≤ℤ◌, length, slice_index, slice_index_or, ◌++◌, ◌∷◌, [], OnOk, IfOk, IfErr};
-ghost use Rattle.rail_specs.specs.Step.{IsInRange};
-ghost use Rattle.train_file.specs.Shape.{IsTrain};
-ghost use Rattle.drive_rules.specs.Joining.{numbers_of, AreRows, RefusesRows};
+ghost use Rattle.rail_specs.specs.Step.{step_of_train, IsInRange};
+ghost use Rattle.train_file.specs.Shape.{numbers_of, IsTrain};
+ghost use Rattle.drive_rules.specs.Joining.{AreRows, RefusesRows};
 
 use crate::joined::fault::RulesFault;
 use std::alloc::{AllocError, Global};
@@ -12,24 +12,16 @@ use step_energy::{StepNumbers, StepRow, Steps};
 use train_file::Train;
 
 /// The numbers of a train's step of this length and gradient.
-fn numbers_of(train: &Train, metres: u32, gradient: i32) -> StepNumbers
+fn step_numbers(train: &Train, metres: u32, gradient: i32) -> StepNumbers
     requires train { IsTrain train.now }
     requires long { 1 ≤ metres }
     requires short { metres ≤ 1000 }
     requires down { negsuc 999 ≤ℤ gradient }
     requires up { gradient ≤ℤ pos 1000 }
-    ensures value { result ≡ numbers_of train.now metres gradient }
+    ensures value { result ≡ step_of_train (numbers_of train.now) metres gradient }
     ensures in_range { IsInRange result }
 {
-    StepNumbers {
-        mass: train.mass,
-        inertia: train.inertia,
-        a: train.a,
-        b: train.b,
-        c: train.c,
-        metres: metres as u16,
-        gradient: gradient as i16,
-    }
+    train.numbers().step(metres as u16, gradient as i16)
 }
 
 /// One row more.
@@ -62,7 +54,7 @@ pub(crate) fn rows_of_steps<L: Ledger>(
 {
     let mut rows = Vec::new(alloc);
     for i in 0..gradients.len() {
-        let numbers = numbers_of(train, places[i + 1] - places[i], gradients[i]);
+        let numbers = step_numbers(train, places[i + 1] - places[i], gradients[i]);
         match StepRow::make(numbers, steps) {
             Ok(row) => append(&mut rows, row)?,
             Err(_) => return Err(RulesFault::DragTooGreat(i as u32)),

@@ -1,16 +1,7 @@
 //! What the lines of a route say.
 
+use rail_specs::TrainNumbers;
 use step_energy::StepRow;
-
-/// The numbers of a route's train.
-#[derive(Clone, Copy)]
-pub(crate) struct TrainNumbers {
-    pub mass: u32,
-    pub inertia: u32,
-    pub a: u32,
-    pub b: u32,
-    pub c: u32,
-}
 
 /// What a route says before its steps.
 #[derive(Clone, Copy)]

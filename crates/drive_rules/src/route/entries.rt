@@ -3,14 +3,15 @@
 ghost use Rattle.std.specs.Prelude.{[], ◌≡◌, ◌+◌, ◌&&◌, ℕ, ◌≤◌, pos, negsuc, Some, None, length, codes, IfOk, IfSome, OnOk, count_by, if◌then◌else◌};
 ghost use Rattle.std.specs.Int.RustNames.{unsigned_abs};
 ghost use Rattle.rail_specs.specs.First.{first_in};
-ghost use Rattle.rail_specs.specs.Route.{entry_faults, is_step_line, is_within, step_fault, step_on, steps_on, unless};
-ghost use Rattle.rail_specs.specs.Step.{IsInRange};
-ghost use Rattle.drive_rules.specs.RouteParts.{numbers_with, step_line, AnswersFault, AppendsStep, CountsEntry, HasSteps, IsEmpty, IsTrain, ReadsEntry};
+ghost use Rattle.rail_specs.specs.Numbers.{is_within};
+ghost use Rattle.rail_specs.specs.Route.{entry_faults, is_step_line, step_fault, step_on, steps_on, unless};
+ghost use Rattle.rail_specs.specs.Step.{step_of_train, IsInRange, IsTrainInRange};
+ghost use Rattle.drive_rules.specs.RouteParts.{step_line, AnswersFault, AppendsStep, CountsEntry, HasSteps, IsEmpty, ReadsEntry};
 
-use crate::route::data::{Entry, StepLine, StepLists, TrainNumbers};
-use crate::route::line::{natural_within, read_after};
-use rail_base::Lines;
-use rail_specs::RouteFault;
+use crate::route::data::{Entry, StepLine, StepLists};
+use crate::route::line::read_after;
+use rail_base::{Lines, natural_within};
+use rail_specs::{RouteFault, TrainNumbers};
 use std::alloc::{AllocError, Global};
 use std::sync::ledger::Ledger;
 use step_energy::{StepNumbers, StepRow, Steps};
@@ -51,23 +52,15 @@ fn append(lists: &mut StepLists, step: StepLine) -> Result<(), AllocError>
 
 /// The numbers of a step of the train, where length and gradient are in range.
 fn step_numbers(train: &TrainNumbers, metres: i64, gradient: i64) -> Option<StepNumbers>
-    requires { IsTrain train.now }
-    ensures value { result ≡ (if is_within (pos 1) (pos 1000) metres && is_within (negsuc 999) (pos 1000) gradient then Some (numbers_with train.now (unsigned_abs metres) gradient) else None) }
+    requires { IsTrainInRange train.now }
+    ensures value { result ≡ (if is_within (pos 1) (pos 1000) metres && is_within (negsuc 999) (pos 1000) gradient then Some (step_of_train train.now (unsigned_abs metres) gradient) else None) }
     ensures in_range { IfSome result IsInRange }
 {
     let metres = natural_within(metres, 1, 1000)?;
     if gradient < -1000 || gradient > 1000 {
         return None;
     }
-    Some(StepNumbers {
-        mass: train.mass,
-        inertia: train.inertia,
-        a: train.a,
-        b: train.b,
-        c: train.c,
-        metres: metres as u16,
-        gradient: gradient as i16,
-    })
+    Some(train.step(metres as u16, gradient as i16))
 }
 
 /// Reads line n as a step of the train.
@@ -77,7 +70,7 @@ fn read_step<L: Ledger>(
     line: &[u8],
     steps: &mut Steps<L>,
 ) -> Result<StepLine, RouteFault>
-    requires { IsTrain train.now }
+    requires { IsTrainInRange train.now }
     ensures value { result ≡ unless (step_fault train.now.inertia train.now.c n line.now) (step_line train.now (step_on line.now)) }
     ensures counted { IfOk result (λ _. steps.new ≡ steps.old + 1) }
     ensures least { steps.old ≤ steps.new }
@@ -113,7 +106,7 @@ fn read_entry<L: Ledger>(
     line: &[u8],
     steps: &mut Steps<L>,
 ) -> Result<Entry, RouteFault>
-    requires { IsTrain train.now }
+    requires { IsTrainInRange train.now }
     ensures entry { ReadsEntry result train.now n line.now }
     ensures counted { CountsEntry result line.now steps.old steps.new }
 {
@@ -137,7 +130,7 @@ pub(crate) fn read_steps<L: Ledger>(
     mut lines: Lines<'_>,
     steps: &mut Steps<L>,
 ) -> Result<StepLists, RouteFault>
-    requires { IsTrain train.now }
+    requires { IsTrainInRange train.now }
     ensures fault { AnswersFault result (first_in (entry_faults train.now.inertia train.now.c 7 lines.entry)) }
     ensures read { IfOk result (HasSteps train.now (steps_on lines.entry) []) }
     ensures counted { IfOk result (λ lists. steps.new ≡ steps.old + length lists.rows.items) }

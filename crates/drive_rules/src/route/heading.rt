@@ -3,13 +3,14 @@
 ghost use Rattle.std.specs.Prelude.{◌≡◌, ◌∷◌, [], ℕ, ◌≤◌, pos, Some, None, length, drop, codes, IfOk, IfSome, if◌then◌else◌};
 ghost use Rattle.rail_specs.specs.First.{first_in};
 ghost use Rattle.rail_specs.specs.Lines.{is_line, line_at, numbers_at, size};
-ghost use Rattle.rail_specs.specs.Route.{form_then_range, heading_faults, is_one, is_train, train_line, unless};
-ghost use Rattle.drive_rules.specs.RouteParts.{heading_of, train_numbers, IsHeading, IsTrain};
+ghost use Rattle.rail_specs.specs.Route.{form_then_range, heading_faults, is_one, is_train, train_line, train_numbers, unless};
+ghost use Rattle.rail_specs.specs.Step.{IsTrainInRange};
+ghost use Rattle.drive_rules.specs.RouteParts.{heading_of, IsHeading};
 
-use crate::route::data::{Heading, TrainNumbers};
-use crate::route::line::{natural_within, take_numbers};
-use rail_base::Lines;
-use rail_specs::RouteFault;
+use crate::route::data::Heading;
+use crate::route::line::take_numbers;
+use rail_base::{Lines, natural_within};
+use rail_specs::{RouteFault, TrainNumbers};
 
 /// Takes the first line of a route.
 fn read_title(lines: &mut Lines<'_>) -> Result<(), RouteFault>
@@ -31,7 +32,7 @@ fn read_title(lines: &mut Lines<'_>) -> Result<(), RouteFault>
 /// The train of these numbers, where they are in range.
 fn train_of(numbers: [i64; 5]) -> Option<TrainNumbers>
     ensures value { result ≡ (if is_train numbers then Some (train_numbers (Some numbers)) else None) }
-    ensures train { IfSome result IsTrain }
+    ensures train { IfSome result IsTrainInRange }
 {
     let [mass, inertia, a, b, c] = numbers;
     Some(TrainNumbers {
@@ -46,7 +47,7 @@ fn train_of(numbers: [i64; 5]) -> Option<TrainNumbers>
 /// Takes the line of the train.
 fn read_train(lines: &mut Lines<'_>) -> Result<TrainNumbers, RouteFault>
     ensures value { let ns = numbers_at lines.old 1 (codes "train ") 5 in result ≡ unless (form_then_range 2 ns is_train) (train_numbers ns) }
-    ensures train { IfOk result IsTrain }
+    ensures train { IfOk result IsTrainInRange }
     ensures rest { lines.new ≡ drop 1 lines.old }
 {
     let mut numbers = [0i64; 5];

@@ -1,9 +1,7 @@
 //! Numbers on the lines of a text.
 
-ghost use Rattle.std.specs.Prelude.{◌≡◌, ◌≤◌, pos, Some, None, length, drop, IfSome, MatchBool, if◌then◌else◌};
-ghost use Rattle.std.specs.Int.RustNames.{unsigned_abs};
+ghost use Rattle.std.specs.Prelude.{◌≡◌, Some, None, length, drop, MatchBool};
 ghost use Rattle.rail_specs.specs.Lines.{numbers_in, numbers_after, numbers_at};
-ghost use Rattle.rail_specs.specs.Route.{is_within};
 
 use rail_base::{Fields, Lines, read_field};
 
@@ -14,7 +12,7 @@ pub(crate) fn read_numbers(text: &[u8], numbers: &mut [i64]) -> bool
 {
     let mut fields = Fields::new(text);
     for number in numbers.iter_mut() {
-        match fields.next().and_then(read_field) {
+        match fields.next().and_then(|field| read_field(field)) {
             Some(read) => *number = read,
             None => return false,
         }
@@ -41,18 +39,5 @@ pub(crate) fn take_numbers(lines: &mut Lines<'_>, word: &[u8], numbers: &mut [i6
     match lines.next() {
         Some(line) => read_after(word, line, numbers),
         None => false,
-    }
-}
-
-/// A number as one without a sign, where it is in this range.
-pub(crate) fn natural_within(number: i64, low: u32, high: u32) -> Option<u32>
-    ensures value { result ≡ (if is_within (pos low) (pos high) number then Some (unsigned_abs number) else None) }
-    ensures least { IfSome result (λ n. low ≤ n) }
-    ensures most { IfSome result (λ n. n ≤ high) }
-{
-    if i64::from(low) <= number && number <= i64::from(high) {
-        Some(number as u32)
-    } else {
-        None
     }
 }

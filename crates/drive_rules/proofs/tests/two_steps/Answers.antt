@@ -1,10 +1,10 @@
-use Rattle.std.proofs.Common.{ℕ, zero, suc, ◌≡◌, ◌<◌, ◌≤◌, ◌+◌, List, [], ◌∷◌, length, get_or, Bool, true, false, refl, sym, subst, ap, ◌∙◌, to_z, of_z, w64, arith}
+use Rattle.std.proofs.Common.{ℕ, zero, suc, ◌≡◌, ◌<◌, ◌≤◌, ◌+◌, List, [], ◌∷◌, length, get_or, true, false, refl, sym, subst, ap, ◌∙◌, to_z, of_z, w64, arith}
 use Rattle.std.specs.Prelude.{ℤ, slice_index}
 use Rattle.std.specs.Int.RustNames.{unsigned_abs}
 use Rattle.std.proofs.lemmas.Int.{ints}
 use Rattle.rail_specs.specs.declared.StepNumbers.{StepNumbers}
 use Rattle.rail_specs.specs.declared.Timing.{Timing}
-use Rattle.rail_specs.specs.Rules.{Rules, IsPassed, no_timing}
+use Rattle.rail_specs.specs.Rules.{Rules, IsPassed}
 use Rattle.rail_specs.specs.Step.{IsInRange, HasSmallDrag}
 use Rattle.rail_specs.specs.Table.{IsForceTable}
 use Rattle.drive_rules.specs.Shaped.{IsShaped}

@@ -1,4 +1,4 @@
-use Rattle.std.proofs.Common.{arith, ◌+◌, ◌-◌, ◌≡◌, ◌<◌, ◌≤◌, length, get_or, ℕ, pos, negsuc}
+use Rattle.std.proofs.Common.{arith, pos, negsuc}
 use Rattle.drive_rules.proofs.JoinedSteps.{least_limits, steps_are, value_low, value_high}
 use Rattle.drive_rules.proofs.joined.course.course_over.Goals as goal
 

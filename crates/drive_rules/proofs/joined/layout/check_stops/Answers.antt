@@ -1,4 +1,4 @@
-use Rattle.std.proofs.Common.{arith, ◌+◌, ◌-◌, ◌≡◌, ◌≤◌, length, get_or, ℕ, subst, sym}
+use Rattle.std.proofs.Common.{arith, ◌+◌, ◌-◌, ◌≡◌, length, get_or, ℕ, subst}
 use Rattle.drive_rules.specs.Joined.{IsFirst, IsTooClose}
 use Rattle.drive_rules.proofs.JoinedStops.{first_close}
 use Rattle.drive_rules.proofs.joined.layout.check_stops.Goals as goal

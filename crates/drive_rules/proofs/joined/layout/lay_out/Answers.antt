@@ -1,5 +1,4 @@
-use Rattle.std.proofs.Common.{arith, ◌≡◌, ◌≤◌, ◌<◌, length, ℕ, List, subst, sym, ap, ◌∙◌, refl}
-use Rattle.drive_rules.specs.Joined.{marks_of, last_place}
+use Rattle.std.proofs.Common.{arith, ◌≤◌, length, refl}
 use Rattle.drive_rules.proofs.JoinedGrid.{two_places}
 use Rattle.drive_rules.proofs.JoinedStops.{all_apart}
 use Rattle.drive_rules.proofs.joined.layout.lay_out.Goals as goal

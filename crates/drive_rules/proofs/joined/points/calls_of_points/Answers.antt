@@ -1,5 +1,4 @@
-use Rattle.std.proofs.Common.{ℕ, ◌≡◌, ◌<◌, ◌≤◌, ◌+◌, length, get_or, arith, length-append, add-one, rules}
-use Rattle.std.proofs.lemmas.Bool.{cases_lt}
+use Rattle.std.proofs.Common.{ℕ, ◌≡◌, ◌<◌, ◌+◌, length, get_or, arith}
 use Rattle.line_file.specs.Shape.{call_at}
 use Rattle.drive_rules.specs.Joined.{IsCallAt}
 use Rattle.drive_rules.proofs.JoinedLists.{pushed}

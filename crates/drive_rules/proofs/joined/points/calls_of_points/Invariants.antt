@@ -1,4 +1,4 @@
-use Rattle.std.proofs.Common.{ℕ, ◌≡◌, ◌<◌, ◌≤◌, ◌+◌, length, get_or}
+use Rattle.std.proofs.Common.{ℕ, ◌≡◌, ◌<◌, ◌≤◌, length, get_or}
 use Rattle.line_file.specs.Shape.{call_at}
 use Rattle.drive_rules.specs.Joined.{IsCallAt}
 use Rattle.drive_rules.proofs.joined.points.calls_of_points.Given as goal

@@ -1,4 +1,4 @@
-use Rattle.std.proofs.Common.{ℕ, ◌≡◌, ◌<◌, ◌≤◌, ◌⊎◌, length, get_or}
+use Rattle.std.proofs.Common.{ℕ, ◌≡◌, ◌<◌, ◌≤◌, ◌⊎◌, length}
 use Rattle.drive_rules.specs.Joined.{stretch_at, Meets}
 use Rattle.drive_rules.proofs.joined.sections.lowered.Given as goal
 

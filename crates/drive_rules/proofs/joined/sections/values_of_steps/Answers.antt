@@ -1,4 +1,4 @@
-use Rattle.std.proofs.Common.{ℕ, ◌≡◌, ◌<◌, ◌≤◌, ◌+◌, ◌-◌, length, get_or, arith, pos, refl, ap, subst, sym, List, [], ◌∷◌, ◌++◌, ℤ, to_z, of_z, w32}
+use Rattle.std.proofs.Common.{ℕ, ◌≡◌, ◌<◌, ◌≤◌, ◌+◌, ◌-◌, length, get_or, arith, pos, refl, subst, [], ◌∷◌, ◌++◌, ℤ, to_z, of_z, w32}
 use Rattle.std.proofs.lemmas.Int.{ints}
 use Rattle.line_file.specs.Shape.{section_at}
 use Rattle.drive_rules.specs.Joined.{LiesIn}

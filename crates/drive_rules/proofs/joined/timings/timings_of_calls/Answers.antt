@@ -1,4 +1,4 @@
-use Rattle.std.proofs.Common.{ℕ, ◌≡◌, ◌<◌, ◌≤◌, ◌+◌, arith, refl, inl, inr, get_or, Some, None, take, drop, length, ℤ, List, [], ◌∷◌, ◌++◌, to_z, of_z, w64, subst}
+use Rattle.std.proofs.Common.{◌≡◌, ◌<◌, ◌≤◌, arith, refl, get_or, length, ℤ, [], ◌∷◌, ◌++◌, to_z, of_z, w64, subst}
 use Rattle.std.proofs.lemmas.Int.{ints}
 use Rattle.line_file.specs.Shape.{call_at}
 use Rattle.rail_specs.specs.declared.Timing.{Timing}

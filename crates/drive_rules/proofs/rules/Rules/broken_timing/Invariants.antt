@@ -1,6 +1,7 @@
 use Rattle.std.proofs.Common.{◌≡◌, ◌≤◌, ◌<◌, ◌*◌, None, length, get_or}
 use Rattle.rail_specs.specs.Times.{arrival_up}
-use Rattle.drive_rules.specs.Verdict.{first_below, timing_fault}
+use Rattle.rail_specs.specs.First.{first_below}
+use Rattle.drive_rules.specs.Verdict.{timing_fault}
 use Rattle.rail_specs.specs.Rules.{no_timing}
 use Rattle.drive_rules.proofs.rules.Rules.broken_timing.Given as goal
 

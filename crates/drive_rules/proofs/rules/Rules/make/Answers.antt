@@ -1,9 +1,8 @@
-use Rattle.std.proofs.Common.{ℕ, ◌≡◌, ◌<◌, ◌≤◌, ◌+◌, ◌-◌, ◌∙◌, List, length, get_or, subst, sym, ap, arith}
-use Rattle.rail_specs.specs.Rules.{Rules}
-use Rattle.drive_rules.specs.Joined.{IsJoined, Joins, marks_of, last_place}
+use Rattle.std.proofs.Common.{◌≡◌, ◌≤◌, ◌+◌, length, get_or, arith}
+use Rattle.drive_rules.specs.Joined.{marks_of, last_place}
 use Rattle.drive_rules.proofs.JoinedGrid.{limits_cut, gradients_cut, two_places, short_steps, first_is, call_place}
 use Rattle.drive_rules.proofs.JoinedShaped.{shaped}
-use Rattle.drive_rules.proofs.JoinedWhole.{joined_from, rules_from}
+use Rattle.drive_rules.proofs.JoinedWhole.{joined_from}
 use Rattle.drive_rules.proofs.rules.Rules.make.Goals as goal
 
 pub course_over-requires-clause-limits : goal.course_over-requires-clause-limits

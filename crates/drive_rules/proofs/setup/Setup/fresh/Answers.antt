@@ -1,7 +1,6 @@
-use Rattle.std.proofs.Common.{◌≡◌, ◌<◌, ◌≤◌, ◌-◌, ℕ, List, [], length, get_or, arith, subst, sym}
-use Rattle.line_file.specs.declared.calls.Call.{Call}
+use Rattle.std.proofs.Common.{◌≡◌, ◌<◌, ◌≤◌, ◌-◌, ℕ, List, [], length, arith, subst}
 use Rattle.line_file.specs.declared.service.Service.{Service}
-use Rattle.line_file.specs.Shape.{IsService, call_at}
+use Rattle.line_file.specs.Shape.{IsService}
 use Rattle.drive_rules.specs.declared.setup.Stretch.{Stretch}
 use Rattle.drive_rules.specs.Joined.{IsSetup, first_place}
 use Rattle.drive_rules.proofs.JoinedRising.{calls_rise}

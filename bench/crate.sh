@@ -1,0 +1,58 @@
+# Read by judge.sh, line_file.sh and potentials.sh: builds a small program over the crates, in a copy of the repository. Needs rt and
+# valgrind. What was proved before is copied too, so that only what changed is proved again.
+top=$(cd "$(dirname "$0")/.." && pwd)
+work=$(mktemp -d)
+trap 'rm -rf "$work"' EXIT
+cp -a "$top/crates" "$top/crates.txt" "$top/HANDLES" "$work/"
+
+# How a program reads the rules of a route: behind `use` lines, before `main`.
+reading_rules='
+fn rules_of<L: Ledger>(alloc: Global, text: &[u8], blank: Blank) -> Option<Rules>
+    requires name { blank.name ≡ L.name }
+    requires parts { blank.parts ≡ L.parts }
+    requires some { 0 < L.parts }
+{
+    let mut steps = Steps::<L>::new(blank);
+    read_route(alloc, text, &mut steps).ok()
+}
+
+fn rules(alloc: Global, text: &[u8]) -> Option<Rules> {
+    rules_of::<Brand>(alloc, text, Blank::new(1))
+}
+'
+
+proof() { # a proof file of the program, at this place: its text is read from standard input
+    mkdir -p "$(dirname "$work/crates/bench/proofs/$1")"
+    cat >"$work/crates/bench/proofs/$1"
+}
+
+proof_of_rules() { # the proof that `rules` calls `rules_of` with its own names
+    proof rules/Invariants.antt <<'ANTT'
+use Rattle.bench.proofs.rules.Given as goal
+
+abbrev pub ghosts-rules_of : goal.ghosts-rules_of
+ghosts-rules_of a = record { name = a.blank.name; parts = a.blank.parts }
+ANTT
+}
+
+build() { # the program over these crates, once its main.rt is there; its status is its own, so what counts is whether it was built
+    echo "bench: $1" >>"$work/crates.txt"
+    (cd "$work/crates/bench" && rt run) >"$work/build" 2>&1 || true
+    if ! test -x "$work/crates/bench/out/bench"; then
+        cat "$work/build" >&2
+        exit 1
+    fi
+}
+
+counted() { # the instructions of a run of the program with these words
+    valgrind --tool=callgrind --callgrind-out-file="$work/callgrind" "$work/crates/bench/out/bench" "$@" >"$work/text" 2>"$work/log" || true
+    count=$(sed -n 's/.*Collected : //p' "$work/log")
+    if test -z "$count"; then
+        cat "$work/log" >&2
+        exit 1
+    fi
+    echo "$count"
+}
+
+mkdir -p "$work/crates/bench/src"
+main=$work/crates/bench/src/main.rt
