@@ -16,7 +16,7 @@ use Rattle.line_file.specs.ServiceText.{no_call}
 use Rattle.line_file.specs.Shape.{section_at, call_at, IsLine, IsService}
 use Rattle.drive_rules.specs.declared.setup.Setup.{Setup}
 use Rattle.drive_rules.specs.Joined.{AreGridPlaces, ForNone, IsOutside, IsSetup, first_place, last_place, marks_of}
-use Rattle.drive_rules.specs.Joining.{AreCut, Follow}
+use Rattle.drive_rules.specs.JoinedParts.{AreCut, Follow}
 use Rattle.drive_rules.proofs.JoinedRising.{places_order, places_not_above, calls_rise}
 
 pub place_low : (marks : List ℕ) (step from to p : ℕ) → from < to → IsPlace marks step from to p → from ≤ p

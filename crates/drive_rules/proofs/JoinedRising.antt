@@ -3,10 +3,10 @@ use Rattle.std.proofs.Common.{ℕ, zero, suc, ◌≡◌, ◌<◌, ◌≤◌, ◌
 use Rattle.std.proofs.lemmas.Bool.{cases_lt, cases_eq}
 use Rattle.rail_specs.specs.declared.Timing.{Timing}
 use Rattle.rail_specs.specs.Rules.{no_timing}
-use Rattle.drive_rules.specs.Timings.{Rises}
+use Rattle.drive_rules.specs.Shaped.{Rises}
 use Rattle.line_file.specs.declared.calls.Call.{Call}
 use Rattle.line_file.specs.Shape.{call_at}
-use Rattle.drive_rules.specs.Joining.{Rising, CallsRise}
+use Rattle.drive_rules.specs.JoinedParts.{Rising, CallsRise}
 
 -- what rises from each to the next rises from each to each later one
 rises_to : (f : ℕ → ℕ) (n : ℕ) → ((k : ℕ) → k + 1 < n → f k < f (k + 1)) → (i j : ℕ) → i < j → j < n → f i < f j

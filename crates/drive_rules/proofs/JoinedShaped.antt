@@ -22,7 +22,7 @@ use Rattle.train_file.specs.declared.train.Train.{Train}
 use Rattle.train_file.specs.Shape.{IsTrain}
 use Rattle.drive_rules.specs.declared.setup.Setup.{Setup}
 use Rattle.drive_rules.specs.Joined.{IsJoined, IsSetup, IsStepOf, IsLeastLimit, IsPointOf, IsTimingOf, IsLatest, ForNone, IsTooGreat, marks_of, last_place}
-use Rattle.drive_rules.specs.Joining.{NoneClose}
+use Rattle.drive_rules.specs.JoinedParts.{NoneClose}
 use Rattle.drive_rules.specs.Shaped.{IsShaped}
 use Rattle.drive_rules.proofs.JoinedGrid.{first_is, last_is, two_places, short_steps, place_at, place_high}
 use Rattle.drive_rules.proofs.JoinedRising.{places_rise, timings_rise}

@@ -11,7 +11,7 @@ use Rattle.train_file.specs.declared.train.Train.{Train}
 use Rattle.train_file.specs.Shape.{numbers_of}
 use Rattle.drive_rules.specs.declared.setup.Stretch.{Stretch}
 use Rattle.drive_rules.specs.Joined.{LiesIn, IsLeastLimit, IsStepOf, Meets}
-use Rattle.drive_rules.specs.Joining.{AreRows, AreValues, AreLowered, IsLowered, Rising}
+use Rattle.drive_rules.specs.JoinedParts.{AreRows, AreValues, AreLowered, IsLowered, Rising}
 
 -- a section begins at or above the end of each earlier one
 later_section : (low high : ℤ) (sections : List Section) → AreSections low high sections → (i j : ℕ) → i < j → j < length sections → (section_at sections i).to ≤ (section_at sections j).from

@@ -6,8 +6,7 @@ use Rattle.line_file.specs.declared.calls.Call.{Call}
 use Rattle.line_file.specs.ServiceText.{no_call}
 use Rattle.line_file.specs.Shape.{call_at}
 use Rattle.drive_rules.specs.Joined.{HasStop, IsCallAt, IsFirst, ForNone, IsTooClose, is_stop_call}
-use Rattle.drive_rules.specs.Joining.{CallsRise, Rising, IsCloseStop, NoneClose}
-use Rattle.drive_rules.specs.JoiningParts.{AreStops}
+use Rattle.drive_rules.specs.JoinedParts.{CallsRise, Rising, IsCloseStop, NoneClose, AreStops}
 use Rattle.drive_rules.proofs.JoinedRising.{calls_rise, places_order}
 
 -- there is no stop call past the last call

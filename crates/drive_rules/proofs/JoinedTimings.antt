@@ -13,8 +13,8 @@ use Rattle.line_file.specs.ServiceText.{no_call}
 use Rattle.rail_specs.specs.declared.Timing.{Timing}
 use Rattle.rail_specs.specs.Rules.{no_timing}
 use Rattle.drive_rules.specs.Joined.{IsTimingOf, IsLatest}
-use Rattle.drive_rules.specs.Joining.{Rising, CallsRise}
-use Rattle.drive_rules.specs.Timings.{Rises}
+use Rattle.drive_rules.specs.JoinedParts.{Rising, CallsRise}
+use Rattle.drive_rules.specs.Shaped.{Rises}
 use Rattle.drive_rules.proofs.JoinedLists.{pushed}
 use Rattle.drive_rules.proofs.JoinedRising.{calls_rise, places_order, places_not_above}
 

@@ -9,7 +9,7 @@ use Rattle.drive_rules.specs.declared.joined.layout.Layout.{Layout}
 use Rattle.drive_rules.specs.declared.joined.course.Course.{Course}
 use Rattle.drive_rules.specs.declared.joined.times.Times.{Times}
 use Rattle.drive_rules.specs.Joined.{IsJoined, IsSetup, AreTimings, marks_of, last_place}
-use Rattle.drive_rules.specs.JoiningParts.{IsLayout, IsCourse, AreTimes}
+use Rattle.drive_rules.specs.JoinedParts.{IsLayout, IsCourse, AreTimes}
 use Rattle.drive_rules.proofs.JoinedGrid.{first_is}
 
 abbrev pub rules_from : ℕ → ℕ → List ℕ → List ℕ → Layout → Course → Times → Rules

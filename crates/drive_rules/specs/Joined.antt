@@ -19,7 +19,7 @@ use Rattle.drive_rules.specs.declared.setup.Setup.{Setup}
 use Rattle.distance_grid.specs.Answer.{IsShortGrid, IsLongGrid}
 use Rattle.drive_rules.specs.declared.joined.fault.RulesFault.{RulesFault}
 use Rattle.drive_rules.specs.declared.joined.fault.RulesFault.TheVariants as fault
-use Rattle.drive_rules.specs.Timings.{Rises}
+use Rattle.drive_rules.specs.Shaped.{Rises}
 
 -- what stands past the last stretch
 abbrev pub no_stretch : Stretch

@@ -1,10 +1,30 @@
 -- What holds of the rules of every run.
-use Rattle.std.specs.Prelude.{ℕ, ◌+◌, ◌-◌, ◌≡◌, ◌≤◌, ◌<◌, length, slice_index, All, true}
+use Rattle.std.specs.Prelude.{ℕ, ◌+◌, ◌-◌, ◌≡◌, ◌≤◌, ◌<◌, List, length, slice_index, slice_index_or, All, true}
 use Rattle.std.specs.Int.RustNames.{unsigned_abs}
-use Rattle.rail_specs.specs.Rules.{Rules, IsPassed, step_at, timing_at, is_stop}
+use Rattle.rail_specs.specs.declared.Timing.{Timing}
+use Rattle.rail_specs.specs.Rules.{Rules, IsPassed, step_at, timing_at, is_stop, no_timing}
 use Rattle.rail_specs.specs.Step.{IsInRange, HasSmallDrag}
 use Rattle.rail_specs.specs.Table.{IsForceTable}
-use Rattle.drive_rules.specs.Timings.{Rises}
+use Rattle.drive_rules.specs.declared.parts.Parts.{Parts}
+
+-- the rules that these parts stand for: contracts see each list of the parts as its items
+abbrev pub rules_of : Parts → Rules
+rules_of p = record {
+  start = p.start;
+  top = p.top;
+  traction = p.traction;
+  brake = p.brake;
+  steps = p.rows.items;
+  limits = p.limits.items;
+  places = p.places.items;
+  stops = p.stops.items;
+  dwells = p.dwells.items;
+  timings = p.timings.items;
+}
+
+-- each timing point lies after the one before it
+abbrev pub Rises : List Timing → Type 0
+Rises ts = (j : ℕ) → j + 1 < length ts → (slice_index_or ts j no_timing).point < (slice_index_or ts (j + 1) no_timing).point
 
 -- what holds of the rules of every run
 pub record IsShaped (r : Rules) : Type 0 where

@@ -1,7 +1,7 @@
 //! What rules are made of.
 
 ghost use Rattle.std.specs.Prelude.{◌≡◌, IfOk};
-ghost use Rattle.drive_rules.specs.Shape.{rules_of};
+ghost use Rattle.drive_rules.specs.Shaped.{rules_of};
 
 use force_table::ForceTable;
 use rail_specs::Timing;

@@ -1,20 +1,4 @@
-//! Routes: the rules of a run as one text says them.
-//!
-//! The lines of the text are, each with its fields parted by one space:
-//!
-//! | line | fields | ranges |
-//! |---|---|---|
-//! | `route 1` | exactly so | |
-//! | `train` | mass, inertia mass, A, B, C | as `StepNumbers` has them |
-//! | `top` | top speed, cm/s | 1 to 12,000 |
-//! | `traction` | force at every speed up to the top, N | 0 to 2,000,000 |
-//! | `brake` | force at every speed up to the top, N | 0 to 2,000,000 |
-//! | `latest` | latest time at the last point, s | 0 to 172,800 |
-//! | `step`, two to 4,000 times | length in m, gradient in 1/10 per mille, limit in cm/s | as `StepNumbers` has them, limit 1 to 12,000 |
-//! | `end` | none | |
-//!
-//! A number is an optional `-` and 1 to 18 decimal digits. Lines end with a line feed, or a carriage return and a line
-//! feed; the last may have no end.
+//! Routes: the rules of a run as one text says them. `docs/FILES.md` has the form of the text, line by line.
 
 ghost use Rattle.std.specs.Prelude.{◌≡◌, ◌≢◌, ◌+◌, ◌≤◌, length, count_by, IfOk};
 ghost use Rattle.std.specs.Str.Lines.{lines};

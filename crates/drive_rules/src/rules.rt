@@ -1,11 +1,9 @@
 //! The rules of a run: its steps, points and latest times, and what its train can do.
 ghost use Rattle.std.specs.Prelude.{◌≡◌, ℕ, ◌+◌, ◌*◌, ◌<◌, ◌≤◌, length, slice_index, IfOk, All};
 ghost use Rattle.std.specs.Int.RustNames.{unsigned_abs};
-ghost use Rattle.rail_specs.specs.Rules.{is_stop, step_at};
+ghost use Rattle.rail_specs.specs.Rules.{IsDrive, is_stop, step_at};
 ghost use Rattle.rail_specs.specs.Times.{slack_of, standing_before};
-ghost use Rattle.drive_rules.specs.Timings.{Rises};
-ghost use Rattle.drive_rules.specs.Shape.{rules_of};
-ghost use Rattle.drive_rules.specs.Shaped.{IsShaped};
+ghost use Rattle.drive_rules.specs.Shaped.{Rises, rules_of, IsShaped};
 
 use crate::parts::Parts;
 use force_table::ForceTable;
@@ -27,8 +25,7 @@ impl Model for Rules {
 
     ghost Value = { RuleData };
 
-    ghost use Rattle.drive_rules.specs.Shape.{rules_of};
-    ghost use Rattle.drive_rules.specs.Shaped.{IsShaped};
+    ghost use Rattle.drive_rules.specs.Shaped.{rules_of, IsShaped};
 
     ghost view = { λ r. rules_of r.parts };
 
@@ -57,6 +54,17 @@ impl Rules {
         ensures { IsShaped self.now }
     {
         let _ = &self.parts;
+    }
+
+    /// What holds of every drive: its speeds are at most the top, and no step begins and ends at a standstill.
+    pub fn known_drive(&self, speeds: &[u16])
+        requires { IsDrive self.now speeds.now }
+        ensures top { (k : ℕ) → slice_index speeds.now k ≤ self.now.top }
+        ensures slow { (k : ℕ) → slice_index speeds.now k ≤ 12000 }
+        ensures moves { (i : ℕ) → i < length self.now.steps → 1 ≤ slice_index speeds.now i + slice_index speeds.now (i + 1) }
+    {
+        let _ = speeds;
+        self.known();
     }
 
     /// The number of steps, 1 to 4,000.

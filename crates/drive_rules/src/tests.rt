@@ -1,7 +1,7 @@
 //! The judge and the readers on worked numbers.
 ghost use Rattle.std.specs.Prelude.{◌≡◌, ◌+◌, ◌<◌, ◌≤◌, length, IfOk, IfSome};
 ghost use Rattle.std.specs.Int.RustNames.{unsigned_abs};
-ghost use Rattle.drive_rules.specs.Shape.{rules_of};
+ghost use Rattle.drive_rules.specs.Shaped.{rules_of};
 
 use crate::drive::Drive;
 use crate::judge::{Judged, Rule};

@@ -3,8 +3,7 @@
 ghost use Rattle.std.specs.Prelude.{◌≡◌, ◌+◌, ◌-◌, ◌<◌, ◌≤◌, ℕ, length, slice_index, IfOk, IfErr};
 ghost use Rattle.line_file.specs.Shape.{IsLine};
 ghost use Rattle.train_file.specs.Shape.{IsTrain};
-ghost use Rattle.drive_rules.specs.Joining.{AreCut, RefusesRows};
-ghost use Rattle.drive_rules.specs.JoiningParts.{IsCourse};
+ghost use Rattle.drive_rules.specs.JoinedParts.{AreCut, RefusesRows, IsCourse};
 
 use crate::joined::fault::RulesFault;
 use crate::joined::rows::rows_of_steps;

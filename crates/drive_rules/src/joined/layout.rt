@@ -4,8 +4,7 @@ ghost use Rattle.std.specs.Prelude.{◌≡◌, ◌-◌, ◌<◌, ◌≤◌, None
 ghost use Rattle.distance_grid.specs.Answer.{IsShortGrid};
 ghost use Rattle.line_file.specs.Shape.{IsLine, IsService};
 ghost use Rattle.drive_rules.specs.Joined.{ForNone, IsFirst, IsOutside, IsSetup, RefusesPlaces, last_place, marks_of};
-ghost use Rattle.drive_rules.specs.JoiningParts.{AreStops, IsLayout, RefusesGrid, RefusesStops};
-ghost use Rattle.drive_rules.specs.Joining.{CallsRise, NoneClose, Rising};
+ghost use Rattle.drive_rules.specs.JoinedParts.{AreStops, IsLayout, RefusesGrid, RefusesStops, CallsRise, NoneClose, Rising};
 
 use crate::joined::fault::RulesFault;
 use crate::joined::marks::marks;

@@ -3,7 +3,7 @@
 ghost use Rattle.std.specs.Prelude.{◌≡◌, ◌≢◌, None, IfSome, ◌+◌, ◌-◌, ◌<◌, ◌≤◌, ℕ, false, length, slice_index, slice_index_or, IfOk};
 ghost use Rattle.line_file.specs.Shape.{call_at, AreCalls};
 ghost use Rattle.drive_rules.specs.Joined.{is_stop_call, dwell_of};
-ghost use Rattle.drive_rules.specs.Joining.{Rising, CallsRise, AreCallsAt, IsCloseStop, NoneClose};
+ghost use Rattle.drive_rules.specs.JoinedParts.{Rising, CallsRise, AreCallsAt, IsCloseStop, NoneClose};
 
 use line_file::Call;
 use std::alloc::{AllocError, Global};

@@ -3,7 +3,7 @@
 ghost use Rattle.std.specs.Prelude.{◌≡◌, ◌+◌, ◌<◌, ◌≤◌, ℕ, ℤ, pos, negsuc, ◌≤ℤ◌, length, slice_index, slice_index_or, ◌++◌, ◌∷◌, [], OnOk, IfOk, IfErr};
 ghost use Rattle.rail_specs.specs.Step.{step_of_train, IsInRange};
 ghost use Rattle.train_file.specs.Shape.{numbers_of, IsTrain};
-ghost use Rattle.drive_rules.specs.Joining.{AreRows, RefusesRows};
+ghost use Rattle.drive_rules.specs.JoinedParts.{AreRows, RefusesRows};
 
 use crate::joined::fault::RulesFault;
 use std::alloc::{AllocError, Global};

@@ -3,7 +3,7 @@
 ghost use Rattle.std.specs.Prelude.{◌≡◌, ◌+◌, ◌<◌, ◌≤◌, ℕ, pos, ◌≤ℤ◌, length, slice_index_or, IfOk};
 ghost use Rattle.line_file.specs.LineText.{last_to};
 ghost use Rattle.line_file.specs.Shape.{section_at};
-ghost use Rattle.drive_rules.specs.Joining.{Follow, AreCut, AreValues, IsLowered, AreLowered};
+ghost use Rattle.drive_rules.specs.JoinedParts.{Follow, AreCut, AreValues, IsLowered, AreLowered};
 
 use crate::setup::Stretch;
 use line_file::Section;

@@ -3,8 +3,7 @@
 ghost use Rattle.std.specs.Prelude.{◌<◌, ◌≤◌, ℕ, Contains, length, slice_index, IfOk};
 ghost use Rattle.line_file.specs.Shape.{IsService, call_at};
 ghost use Rattle.drive_rules.specs.Joined.{first_place};
-ghost use Rattle.drive_rules.specs.Joining.{AreCallsAt, Rising};
-ghost use Rattle.drive_rules.specs.JoiningParts.{AreTimes};
+ghost use Rattle.drive_rules.specs.JoinedParts.{AreCallsAt, Rising, AreTimes};
 
 use crate::joined::points::dwells_of_points;
 use crate::joined::timings::timings_of_calls;

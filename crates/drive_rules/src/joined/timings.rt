@@ -5,7 +5,7 @@ ghost use Rattle.std.specs.Int.RustNames.{unsigned_abs};
 ghost use Rattle.line_file.specs.Shape.{call_at, AreCalls};
 ghost use Rattle.line_file.specs.ServiceText.{latest_count};
 ghost use Rattle.drive_rules.specs.Joined.{first_place, AreTimings};
-ghost use Rattle.drive_rules.specs.Joining.{Rising};
+ghost use Rattle.drive_rules.specs.JoinedParts.{Rising};
 
 use line_file::Call;
 use rail_specs::Timing;

@@ -45,7 +45,7 @@ fn train_of(numbers: [i64; 5]) -> Option<TrainNumbers>
 }
 
 /// Takes the line of the train.
-fn read_train(lines: &mut Lines<'_>) -> Result<TrainNumbers, RouteFault>
+fn read_train_line(lines: &mut Lines<'_>) -> Result<TrainNumbers, RouteFault>
     ensures value { let ns = numbers_at lines.old 1 (codes "train ") 5 in result ≡ unless (form_then_range 2 ns is_train) (train_numbers ns) }
     ensures train { IfOk result IsTrainInRange }
     ensures rest { lines.new ≡ drop 1 lines.old }
@@ -90,7 +90,7 @@ pub(crate) fn read_heading(lines: &mut Lines<'_>) -> Result<Heading, RouteFault>
     ensures rest { IfOk result (λ _. lines.new ≡ drop 6 lines.old) }
 {
     read_title(lines)?;
-    let train = read_train(lines)?;
+    let train = read_train_line(lines)?;
     let top = read_one(lines, 3, b"top ", 1, 12_000)?;
     let traction = read_one(lines, 4, b"traction ", 0, 2_000_000)?;
     let brake = read_one(lines, 5, b"brake ", 0, 2_000_000)?;

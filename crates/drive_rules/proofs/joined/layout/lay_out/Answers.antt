@@ -3,8 +3,7 @@ use Rattle.drive_rules.proofs.JoinedGrid.{two_places}
 use Rattle.drive_rules.proofs.JoinedStops.{all_apart}
 use Rattle.drive_rules.proofs.joined.layout.lay_out.Goals as goal
 use Rattle.std.proofs.Common.{◌-◌}
-use Rattle.drive_rules.specs.Joining.{NoneClose}
-use Rattle.drive_rules.specs.JoiningParts.{AreStops}
+use Rattle.drive_rules.specs.JoinedParts.{NoneClose, AreStops}
 
 pub calls_of_points-requires-clause-some : goal.calls_of_points-requires-clause-some
 calls_of_points-requires-clause-some c =

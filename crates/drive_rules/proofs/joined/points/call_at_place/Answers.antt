@@ -2,7 +2,7 @@ use Rattle.std.proofs.Common.{ℕ, ◌≡◌, ◌<◌, length, arith, inl, inr, 
 use Rattle.std.proofs.lemmas.Bool.{cases_lt, cases_eq}
 use Rattle.line_file.specs.declared.calls.Call.{Call}
 use Rattle.line_file.specs.Shape.{call_at}
-use Rattle.drive_rules.specs.Joining.{CallsRise}
+use Rattle.drive_rules.specs.JoinedParts.{CallsRise}
 use Rattle.drive_rules.proofs.JoinedRising.{calls_rise}
 use Rattle.drive_rules.proofs.joined.points.call_at_place.Goals as goal
 use Rattle.drive_rules.proofs.joined.points.call_at_place.Goals.{else-next-calls-via-then-next-calls+else-calls-next, else-next-calls-via-else-next-calls}

@@ -1,4 +1,4 @@
-use Rattle.drive_rules.specs.Joining.{NoneClose}
+use Rattle.drive_rules.specs.JoinedParts.{NoneClose}
 use Rattle.drive_rules.proofs.joined.points.close_stop.Given as goal
 
 abbrev pub invariant-loop-k : goal.invariant-loop-k

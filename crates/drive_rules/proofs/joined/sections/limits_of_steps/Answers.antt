@@ -1,6 +1,6 @@
 use Rattle.std.proofs.Common.{ℕ, ◌≡◌, ◌<◌, ◌+◌, length, get_or, arith, pos, ℤ, to_z, of_z, w32, subst}
 use Rattle.std.proofs.lemmas.Int.{ints}
-use Rattle.drive_rules.specs.Joining.{IsLowered}
+use Rattle.drive_rules.specs.JoinedParts.{IsLowered}
 use Rattle.drive_rules.proofs.JoinedLists.{pushed}
 use Rattle.drive_rules.proofs.joined.sections.limits_of_steps.Goals as goal
 

@@ -1,5 +1,5 @@
 use Rattle.std.proofs.Common.{ℕ, ◌≡◌, ◌<◌, ◌+◌, length, get_or, pos}
-use Rattle.drive_rules.specs.Joining.{IsLowered}
+use Rattle.drive_rules.specs.JoinedParts.{IsLowered}
 use Rattle.drive_rules.proofs.joined.sections.limits_of_steps.Given as goal
 
 abbrev pub invariant-loop-i : goal.invariant-loop-i

@@ -1,4 +1,4 @@
-//! What is known of drives: their speeds, and whether they are late.
+//! Where a drive is late first.
 ghost use Rattle.std.specs.Prelude.{◌≡◌, ℕ, ◌+◌, ◌-◌, ◌*◌, ◌<◌, ◌≤◌, pos, IfSome, IfNone, List, length, slice_index};
 ghost use Rattle.rail_specs.specs.Rules.{IsDrive, timing_at};
 ghost use Rattle.rail_specs.specs.Times.{arrival_up, IsOnTimeUp, IsFirstLate};
@@ -16,17 +16,6 @@ pub struct LateAt {
 }
 
 impl Rules {
-    /// What holds of every drive: its speeds are at most the top, and no step begins and ends at a standstill.
-    pub fn known_drive(&self, speeds: &[u16])
-        requires { IsDrive self.now speeds.now }
-        ensures top { (k : ℕ) → slice_index speeds.now k ≤ self.now.top }
-        ensures slow { (k : ℕ) → slice_index speeds.now k ≤ 12000 }
-        ensures moves { (i : ℕ) → i < length self.now.steps → 1 ≤ slice_index speeds.now i + slice_index speeds.now (i + 1) }
-    {
-        let _ = speeds;
-        self.known();
-    }
-
     /// The first timing point that a drive reaches too late, and `None` exactly where the drive is on time.
     ///
     /// The speeds are in cm/s, one for each point. It takes no memory.
