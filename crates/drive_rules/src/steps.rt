@@ -2,7 +2,7 @@
 ghost use Rattle.std.specs.Prelude.{◌≡◌, ℕ, ◌+◌, ◌*◌, ◌<◌, ◌≤◌, ◌↔◌, ◌^◌, ℤ, pos, neg_ℤ, ◌≤ℤ◌, length, slice_index, IsTrue, IfOk, IfErr, None, Some};
 ghost use Rattle.std.specs.Int.RustNames.{unsigned_abs};
 ghost use Rattle.rail_specs.specs.Rules.{IsStepKept, step_at, traction_work, brake_work};
-ghost use Rattle.rail_specs.specs.Step.{work, work as work_of};
+ghost use Rattle.rail_specs.specs.Step.{work as work_of};
 ghost use Rattle.drive_rules.specs.Verdict.{force_rule, step_rule};
 
 use crate::judge::Rule;
@@ -31,7 +31,7 @@ impl Rules {
         self.parts.rows[i].force_work(self.parts.brake.at(v0)) as i128
     }
 
-    /// The cost of step i's work from v0 to v1, or the first of its rules that these speeds break.
+    /// The cost of step i's work from v0 to v1, or the first of its rules that these speeds break. `row` is the step's row.
     pub(crate) fn step_cost<C: StepCost>(
         &self,
         i: usize,
@@ -42,7 +42,7 @@ impl Rules {
     ) -> Result<i128, Rule>
         requires step { i < length self.now.steps }
         requires row { row.now ≡ step_at self.now i }
-        ensures kept { IfOk result (λ c. (step_rule self.now i v0 v1 ≡ None) × (c ≡ C.cost cost.now (work (step_at self.now i) v0 v1)) × (unsigned_abs c ≤ 2 ^ 62)) }
+        ensures kept { IfOk result (λ c. (step_rule self.now i v0 v1 ≡ None) × (c ≡ C.cost cost.now (work_of (step_at self.now i) v0 v1)) × (unsigned_abs c ≤ 2 ^ 62)) }
         ensures broken { IfErr result (λ rule. step_rule self.now i v0 v1 ≡ Some rule) }
     {
         let fastest = v0.max(v1);
@@ -103,7 +103,7 @@ impl Rules {
         requires step { i < length self.now.steps }
         requires entry { v0 ≤ self.now.top }
         requires exit { v1 ≤ self.now.top }
-        ensures { IsTrue result ↔ (work (step_at self.now i) v0 v1 ≤ℤ pos (traction_work self.now i v1)) }
+        ensures { IsTrue result ↔ (work_of (step_at self.now i) v0 v1 ≤ℤ pos (traction_work self.now i v1)) }
     {
         let row = &self.parts.rows[i];
         row.is_pulled(row.short_work(v0, v1), self.parts.traction.at(v1))
@@ -114,7 +114,7 @@ impl Rules {
         requires step { i < length self.now.steps }
         requires entry { v0 ≤ self.now.top }
         requires exit { v1 ≤ self.now.top }
-        ensures { IsTrue result ↔ (neg_ℤ (pos (brake_work self.now i v0)) ≤ℤ work (step_at self.now i) v0 v1) }
+        ensures { IsTrue result ↔ (neg_ℤ (pos (brake_work self.now i v0)) ≤ℤ work_of (step_at self.now i) v0 v1) }
     {
         let row = &self.parts.rows[i];
         row.is_held(row.short_work(v0, v1), self.parts.brake.at(v0))
@@ -125,13 +125,13 @@ impl Rules {
         requires step { i < length self.now.steps }
         requires entry { v0 ≤ 12000 }
         requires exit { v1 ≤ 12000 }
-        ensures { IsTrue result ↔ (work (step_at self.now i) v0 v1 ≤ℤ pos 0) }
+        ensures { IsTrue result ↔ (work_of (step_at self.now i) v0 v1 ≤ℤ pos 0) }
     {
         self.parts.rows[i].short_work(v0, v1) <= 0
     }
 }
 
-/// The cost of work.
+/// The cost of work that was computed in 64 bits.
 fn cost_of_work<C: StepCost>(work: i64, cost: &C) -> i128
     requires { unsigned_abs work < 2 ^ 62 }
     ensures value { result ≡ C.cost cost.now work }

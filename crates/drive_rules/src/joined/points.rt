@@ -62,7 +62,7 @@ pub(crate) fn calls_of_points(
 }
 
 /// Whether a call is a stop: it has a dwell or is the last. There is none at the number of calls.
-pub(crate) fn is_stop_call(calls: &[Call], j: usize) -> bool
+fn is_stop_call(calls: &[Call], j: usize) -> bool
     requires { j ≤ length calls.now }
     ensures { result ≡ is_stop_call calls.now j }
 {

@@ -6,9 +6,10 @@ ghost use Rattle.train_file.specs.Shape.{numbers_of, IsTrain};
 ghost use Rattle.drive_rules.specs.JoinedParts.{AreRows, RefusesRows};
 
 use crate::joined::fault::RulesFault;
+use rail_specs::StepNumbers;
 use std::alloc::{AllocError, Global};
 use std::sync::ledger::Ledger;
-use step_energy::{StepNumbers, StepRow, Steps};
+use step_energy::{StepRow, Steps};
 use train_file::Train;
 
 /// The numbers of a train's step of this length and gradient.

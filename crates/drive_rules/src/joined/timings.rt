@@ -57,17 +57,14 @@ pub(crate) fn timings_of_calls(
     let mut timings = Vec::new(alloc);
     let mut point = 0;
     for j in 1..calls.len() {
-        match calls[j].latest {
-            Some(seconds) => {
-                if places[0] < calls[j].place {
-                    point = point_from(places, point, calls[j].place);
-                    timings.push(Timing {
-                        point: point as u32,
-                        latest: latest_after(seconds, clock),
-                    })?;
-                }
+        if let Some(seconds) = calls[j].latest {
+            if places[0] < calls[j].place {
+                point = point_from(places, point, calls[j].place);
+                timings.push(Timing {
+                    point: point as u32,
+                    latest: latest_after(seconds, clock),
+                })?;
             }
-            None => {}
         }
     }
     Ok(timings)

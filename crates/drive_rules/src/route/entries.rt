@@ -11,10 +11,10 @@ ghost use Rattle.drive_rules.specs.RouteParts.{step_line, AnswersFault, AppendsS
 use crate::route::data::{Entry, StepLine, StepLists};
 use crate::route::line::read_after;
 use rail_base::{Lines, natural_within};
-use rail_specs::{RouteFault, TrainNumbers};
+use rail_specs::{RouteFault, StepNumbers, TrainNumbers};
 use std::alloc::{AllocError, Global};
 use std::sync::ledger::Ledger;
-use step_energy::{StepNumbers, StepRow, Steps};
+use step_energy::{StepRow, Steps};
 
 /// The lines before the first step.
 const HEADING_LINES: u32 = 6;
