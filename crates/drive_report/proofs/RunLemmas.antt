@@ -1,16 +1,18 @@
 -- How the runs of one phase go on from step to step.
-use Rattle.std.proofs.Common.{ℕ, suc, ◌≡◌, ◌<◌, ◌≤◌, ◌+◌, ◌++◌, ◌∙◌, List, [], Bool, true, false, length, refl, sym, ap, subst, arith, add-one, append_assoc}
-use Rattle.std.specs.Prelude.{if◌then◌else◌, ◌||◌, not, ◌==◌, nat_eq}
+use Rattle.std.proofs.Common.{ℕ, ◌≡◌, ◌<◌, ◌≤◌, ◌+◌, ◌++◌, ◌∙◌, List, [], Bool, true, false, length, refl, ap, arith, add-one, append_assoc}
+use Rattle.std.specs.Prelude.{if◌then◌else◌, ◌||◌, not, ◌==◌}
 use Rattle.std.proofs.lemmas.Bool.{ne_eqb}
 use Rattle.rail_specs.specs.Rules.{Rules}
 use Rattle.rail_specs.specs.Phase.{phase_at, is_same}
 use Rattle.rail_specs.specs.Report.{run_start, ends_run, phase_line, phase_lines}
 
+-- the first step of a run that goes on, or of the next one
 goes_on : (same last : Bool) (start from next i : ℕ) → last ≡ false → next ≡ (if last || not same then i else from) → start ≡ from → (if same then start else i) ≡ next
 goes_on true false start from next i l n s = cc
 goes_on false false start from next i l n s = cc
 goes_on same true start from next i l n s = cc
 
+-- it is among the steps so far
 pub begun_goes_on : (last : Bool) (next from i : ℕ) → from ≤ i → next ≡ (if last then i + 1 else from) → next ≤ i + 1
 begun_goes_on true next from i b n = omega arith
 begun_goes_on false next from i b n = omega arith

@@ -4,12 +4,12 @@
 //! `rail_specs`, `specs/Report.antt`, and those of the phases in `specs/Phase.antt`.
 #![tactic(auto)]
 
+mod late_texts;
 mod lines;
 mod phases;
 mod reports;
-mod short;
 
+pub use late_texts::{late_text, no_drive_text};
 pub use phases::phase;
 pub use rail_specs::Phase;
 pub use reports::report;
-pub use short::{late_text, no_drive_text};

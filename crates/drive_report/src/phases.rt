@@ -9,7 +9,8 @@ ghost use Rattle.rail_specs.specs.Step.{work};
 use drive_rules::Rules;
 use rail_specs::Phase;
 
-/// Whether a train that gains speed over step i from v0 to v1 can't be one faster: that is above its top, or its traction.
+/// Whether a train that gains speed over step i, from v0 to v1, has all the traction it can: one cm/s more at the end
+/// would be above its top speed, or would take more traction than it has.
 fn is_fastest(rules: &Rules, i: usize, v0: u16, v1: u16) -> bool
     requires step { i < length rules.now.steps }
     requires gains { v0 < v1 }

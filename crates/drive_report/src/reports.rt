@@ -37,7 +37,7 @@ fn kilojoules(energy: i128) -> i128
 }
 
 /// The name of a phase.
-fn name_of(phase: Phase) -> &'static [u8]
+fn phase_name(phase: Phase) -> &'static [u8]
     ensures { result.now ≡ phase_name phase }
 {
     match phase {
@@ -62,7 +62,7 @@ fn phase_of_step(rules: &Rules, speeds: &[u16], i: usize) -> Phase
 
 /// Whether step i is the last of a run of steps of one phase.
 #[tactic(auto, unfolding(rail_specs::specs::Report::ends_run))]
-fn is_last(rules: &Rules, speeds: &[u16], i: usize) -> bool
+fn ends_run(rules: &Rules, speeds: &[u16], i: usize) -> bool
     requires drive { IsDrive rules.now speeds.now }
     requires step { i < length rules.now.steps }
     ensures { result ≡ ends_run rules.now speeds.now i }
@@ -71,12 +71,17 @@ fn is_last(rules: &Rules, speeds: &[u16], i: usize) -> bool
 }
 
 /// Appends a space and the name of the phase of step i.
-fn put_name(out: &mut Vec<u8>, rules: &Rules, speeds: &[u16], i: usize) -> Result<(), AllocError>
+fn put_phase_name(
+    out: &mut Vec<u8>,
+    rules: &Rules,
+    speeds: &[u16],
+    i: usize,
+) -> Result<(), AllocError>
     requires drive { IsDrive rules.now speeds.now }
     requires step { i < length rules.now.steps }
     ensures { OnOk result (out.new.items ≡ out.old.items ++ 32 ∷ phase_name (phase_at rules.now speeds.now i)) }
 {
-    put_word(out, name_of(phase_of_step(rules, speeds, i)))
+    put_word(out, phase_name(phase_of_step(rules, speeds, i)))
 }
 
 /// Appends the line of the run of steps of one phase that begins with step `from` and ends with step i.
@@ -97,15 +102,15 @@ fn put_phase(
     out.extend_from_slice(b"phase")?;
     put_spaced(alloc, out, rules.place(from) as i128)?;
     put_spaced(alloc, out, rules.place(i + 1) as i128)?;
-    put_name(out, rules, speeds, i)?;
+    put_phase_name(out, rules, speeds, i)?;
     put_spaced(alloc, out, speeds[from] as i128)?;
     put_spaced(alloc, out, speeds[i + 1] as i128)?;
     out.push(b'\n')?;
     Ok(())
 }
 
-/// Appends the line of the run that begins with step `from`, where step i ends it, and gives the first step of the next
-/// step's run.
+/// Appends the line of the run that begins with step `from`, where step i ends it, and gives the first step of the run
+/// that the next step is in.
 fn put_run(
     alloc: Global,
     out: &mut Vec<u8>,
@@ -120,7 +125,7 @@ fn put_run(
     ensures text { OnOk result (out.new.items ≡ out.old.items ++ (if ends_run rules.now speeds.now i then phase_line rules.now speeds.now from i else [])) }
     ensures next { IfOk result (λ next. next ≡ (if ends_run rules.now speeds.now i then i + 1 else from)) }
 {
-    if !is_last(rules, speeds, i) {
+    if !ends_run(rules, speeds, i) {
         return Ok(from);
     }
     put_phase(alloc, out, rules, speeds, from, i)?;

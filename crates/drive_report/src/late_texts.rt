@@ -1,7 +1,7 @@
 //! The texts where no drive is on time.
 
 ghost use Rattle.std.specs.Prelude.{◌≡◌, ℕ, ◌<◌, ◌++◌, length, IfOk, OnOk};
-ghost use Rattle.rail_specs.specs.Report.{no_drive_text as text_of_no_drive, late_line, late_text as text_of_late};
+ghost use Rattle.rail_specs.specs.Report.{no_drive_text, late_line, late_text};
 
 use crate::lines::{put_head, put_line, put_spaced};
 use drive_rules::Rules;
@@ -9,7 +9,7 @@ use std::alloc::{AllocError, Global};
 
 /// The text where there is no drive.
 pub fn no_drive_text(alloc: Global) -> Result<Vec<u8>, AllocError>
-    ensures { IfOk result (λ text. text.items ≡ text_of_no_drive) }
+    ensures { IfOk result (λ text. text.items ≡ no_drive_text) }
 {
     let mut out = Vec::new(alloc);
     put_head(&mut out)?;
@@ -47,7 +47,7 @@ pub fn late_text(
     arrival: u64,
 ) -> Result<Vec<u8>, AllocError>
     requires { timing < length rules.now.timings }
-    ensures { IfOk result (λ text. text.items ≡ text_of_late rules.now timing arrival) }
+    ensures { IfOk result (λ text. text.items ≡ late_text rules.now timing arrival) }
 {
     let mut out = Vec::new(alloc);
     put_head(&mut out)?;

@@ -6,7 +6,7 @@ use Rattle.rail_specs.specs.declared.Timing.{Timing}
 use Rattle.rail_specs.specs.Rules.{no_timing, timing_at}
 use Rattle.rail_specs.specs.Report.{spaced}
 use Rattle.drive_report.proofs.AppendLemmas.{appended_five}
-use Rattle.drive_report.proofs.short.put_late.Goals as goal
+use Rattle.drive_report.proofs.late_texts.put_late.Goals as goal
 
 pub returns : goal.returns
 returns c =
