@@ -12,9 +12,11 @@ use Rattle.line_file.specs.ServiceText.{service_of}
 use Rattle.train_file.specs.declared.train.Train.{Train}
 use Rattle.train_file.specs.TrainText.{train_of}
 use Rattle.rail_specs.specs.Faults.{Told}
-use Rattle.advice_run.specs.Outcome.{AfterLine, AfterTrain, IsJoinedAnswer, IsRefusal, fresh_setup, rules_fault_words, service_fault_words, train_fault_words}
+use Rattle.advice_run.specs.Outcome.{AfterLine, AfterTrain, IsJoinedAnswer, IsRefusal, fresh_setup}
+use Rattle.advice_run.specs.FaultWords.{rules_fault_words, service_fault_words, train_fault_words}
 use Rattle.advice_run.proofs.StageLemmas.{carried}
 
+-- the answer over the service's file
 pub after_train_carried : (service : List ℕ) (step tolerance : ℕ) (told told' : List ℕ → Told) (before before' now : List ℕ → ℕ) (line : Line) (train : Train) (status : ℕ) (text : List ℕ)
     → ((n : List ℕ) → told' n ≡ told n) → ((n : List ℕ) → before n ≤ before' n) → AfterTrain service step tolerance told' before' now line train status text
     → AfterTrain service step tolerance told before now line train status text
@@ -22,6 +24,7 @@ after_train_carried service step tolerance told told' before before' now line tr
     carried (codes "service") service told told' before before' now service_of service_fault_words (λ (s : Service). IsJoinedAnswer line train step tolerance s)
     (λ (s : Service). IsJoinedAnswer line train step tolerance s) status text (same service) (fewer service) (λ s j. j) h
 
+-- the answer over the files of the train and the service
 pub after_line_carried : (train service : List ℕ) (step tolerance : ℕ) (told told' : List ℕ → Told) (before before' now : List ℕ → ℕ) (line : Line) (status : ℕ) (text : List ℕ)
     → ((n : List ℕ) → told' n ≡ told n) → ((n : List ℕ) → before n ≤ before' n) → AfterLine train service step tolerance told' before' now line status text
     → AfterLine train service step tolerance told before now line status text

@@ -1,4 +1,4 @@
-pub mod PlanLemmas
+pub mod AnswerLemmas
 pub mod WordsLemmas
 pub mod StageLemmas
 pub mod JoinedLemmas

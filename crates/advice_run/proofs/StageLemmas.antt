@@ -27,6 +27,7 @@ held_long (Some (Some file)) got f s =
     let cut : most_bytes < length (take 1048577 file) = rw f at s in
     (file, (refl, omega (arith, length-take 1048577 file)))
 
+-- what was fetched and measured
 pub fetched_from : (role name : List ℕ) (told : List ℕ → Told) (before now : List ℕ → ℕ) (got : List ℕ) (stage : Stage (Vec ℕ Global)) → Fetches (told name) 1048577 got
     → IsMeasured role got stage → IsFetched role name told before now stage
 fetched_from role name told before now got (Read bytes) f m =
@@ -36,34 +37,29 @@ fetched_from role name told before now got (Ends answer) f m =
     let l = held_long (told name) got f m.0 in
     inr (l.0, (l.1.0, l.1.1, m.1))
 
-weaker_result : {A F : Type 0} (r : Result A F) (P : A → Type 0) (Q : F → Type 0) → MatchResult r (λ a. ⊥) Q → MatchResult r P Q
-weaker_result (Ok a) P Q h = absurd h
-weaker_result (Err e) P Q h = h
+-- a fact of what was read, carried over to another that follows
+mapped_result : {A F : Type 0} (r : Result A F) (P P' : A → Type 0) (Q : F → Type 0) → ((a : A) → P a → P' a) → MatchResult r P Q → MatchResult r P' Q
+mapped_result (Ok a) P P' Q f h = f a h
+mapped_result (Err e) P P' Q f h = h
 
-weaker : {A F : Type 0} (long : Bool) (R : Type 0) (r : Result A F) (P : A → Type 0) (Q : F → Type 0) → MatchBool long R (MatchResult r (λ a. ⊥) Q) → MatchBool long R (MatchResult r P Q)
-weaker true R r P Q h = h
-weaker false R r P Q h = weaker_result r P Q h
+-- the same, where the file may be too long
+mapped : {A F : Type 0} (long : Bool) (R : Type 0) (r : Result A F) (P P' : A → Type 0) (Q : F → Type 0) → ((a : A) → P a → P' a) → MatchBool long R (MatchResult r P Q) → MatchBool long R (MatchResult r P' Q)
+mapped true R r P P' Q f h = h
+mapped false R r P P' Q f h = mapped_result r P P' Q f h
 
 -- an answer that ends the run at a file
 pub ends_there : {A F : Type 0} (role name : List ℕ) (told : List ℕ → Told) (before now : List ℕ → ℕ) (read : List ℕ → Result A F) (words : F → List ℕ) (next : A → ℕ → List ℕ → Type 0)
     (status : ℕ) (text : List ℕ) → MayRead role name told before now read words (λ a s t. ⊥) status text → MayRead role name told before now read words next status text
 ends_there role name told before now read words next status text (inl fault) = inl fault
 ends_there role name told before now read words next status text (inr h) =
-    inr (h.0, (h.1.0, weaker (nat_lt most_bytes (length h.0)) _ (read h.0) (λ a. next a status text) (λ f. IsRefusal role (words f) status text) h.1.1))
+    inr (h.0, (h.1.0, mapped (nat_lt most_bytes (length h.0)) (IsRefusal role (codes "too-long") status text) (read h.0) (λ a. ⊥) (λ a. next a status text) (λ f. IsRefusal role (words f) status text) (λ a no. absurd no) h.1.1))
 
 -- an answer to what a file says
 pub goes_on : {A F : Type 0} (role name : List ℕ) (told : List ℕ → Told) (before now : List ℕ → ℕ) (read : List ℕ → Result A F) (words : F → List ℕ) (next : A → ℕ → List ℕ → Type 0)
     (said : A) (status : ℕ) (text : List ℕ) → Says name told read said → next said status text → MayRead role name told before now read words next status text
 goes_on role name told before now read words next said status text s h = inr (s.file, (s.held, rw (le-ltb most_bytes (length s.file) s.short, s.reads) h))
 
-mapped_result : {A F : Type 0} (r : Result A F) (P P' : A → Type 0) (Q : F → Type 0) → ((a : A) → P a → P' a) → MatchResult r P Q → MatchResult r P' Q
-mapped_result (Ok a) P P' Q f h = f a h
-mapped_result (Err e) P P' Q f h = h
-
-mapped : {A F : Type 0} (long : Bool) (R : Type 0) (r : Result A F) (P P' : A → Type 0) (Q : F → Type 0) → ((a : A) → P a → P' a) → MatchBool long R (MatchResult r P Q) → MatchBool long R (MatchResult r P' Q)
-mapped true R r P P' Q f h = h
-mapped false R r P P' Q f h = mapped_result r P P' Q f h
-
+-- a count that rose since a later time rose since an earlier one, where it was no higher
 rose_sooner : (a b now : ℕ) → a ≤ b → Rose b now → Rose a now
 rose_sooner a b now h r = omega arith
 

@@ -1,3 +1,4 @@
 pub mod Words
+pub mod FaultWords
 pub mod Outcome
 pub mod Stage

@@ -1,15 +1,5 @@
 -- What a run of the program leaves: its status and what it writes, and when a fault may come.
-use Rattle.std.specs.Prelude.{ℕ, ◌≡◌, ◌≢◌, ◌≤◌, ◌++◌, ◌∷◌, List, [], ⊤, Option, Some, None, Result, Ok, pos, codes, length, take, MatchBool, MatchResult, ◌⊎◌, nat_lt}
-use Rattle.rail_specs.specs.declared.RouteFault.{RouteFault}
-use Rattle.rail_specs.specs.declared.RouteFault.TheVariants.{Form, Range, TooManySteps, NoMemory}
-use Rattle.line_file.specs.declared.line.LineFault.{LineFault}
-use Rattle.line_file.specs.declared.line.LineFault.TheVariants as line
-use Rattle.line_file.specs.declared.service.ServiceFault.{ServiceFault}
-use Rattle.line_file.specs.declared.service.ServiceFault.TheVariants as service
-use Rattle.train_file.specs.declared.fault.Key.{Key}
-use Rattle.train_file.specs.declared.fault.Key.TheVariants as key
-use Rattle.train_file.specs.declared.fault.TrainFault.{TrainFault}
-use Rattle.train_file.specs.declared.fault.TrainFault.TheVariants as train
+use Rattle.std.specs.Prelude.{ℕ, ◌≡◌, ◌≢◌, ◌≤◌, ◌++◌, ◌∷◌, List, [], ⊤, Option, Some, None, Result, Ok, codes, length, take, MatchBool, MatchResult, ◌⊎◌, nat_lt}
 use Rattle.line_file.specs.declared.line.Line.{Line}
 use Rattle.line_file.specs.declared.service.Service.{Service}
 use Rattle.line_file.specs.LineText.{line_of}
@@ -22,10 +12,11 @@ use Rattle.drive_rules.specs.declared.joined.fault.RulesFault.TheVariants as rul
 use Rattle.drive_rules.specs.Joined.{Joins, Refuses, first_place}
 use Rattle.rail_specs.specs.Rules.{Rules}
 use Rattle.rail_specs.specs.Faults.{Rose, Told, Appends}
-use Rattle.rail_specs.specs.Report.{line as text_line, spaced}
+use Rattle.rail_specs.specs.Report.{line as text_line}
 use Rattle.rail_specs.specs.Route.{rules_of_text}
 use Rattle.rail_specs.specs.Plan.{IsPlanAnswer}
 use Rattle.advice_run.specs.Words.{Command, Usage, Route, Plan}
+use Rattle.advice_run.specs.FaultWords.{route_fault_words, line_fault_words, service_fault_words, train_fault_words, rules_fault_words}
 
 -- the bytes of a file, at most
 abbrev pub most_bytes : ℕ
@@ -38,74 +29,18 @@ usage_text =
 
 -- a file or the rules are refused: whose fault it is, and the fault's words
 abbrev pub refused_text : List ℕ → List ℕ → List ℕ
-refused_text role fault = text_line (codes "refused " ++ role ++ 32 ∷ fault)
+refused_text role words = text_line (codes "refused " ++ role ++ 32 ∷ words)
 
 -- the file of this role can't be read
 abbrev pub read_fault_text : List ℕ → List ℕ
 read_fault_text role = text_line (codes "read fault " ++ role)
 
--- the words of a fault of a route
-abbrev pub route_fault_words : RouteFault → List ℕ
-route_fault_words (Form number) = codes "form" ++ spaced (pos number)
-route_fault_words (Range number) = codes "range" ++ spaced (pos number)
-route_fault_words TooManySteps = codes "too-many-steps"
-route_fault_words NoMemory = []
-
--- the words of a fault of a line file
-abbrev pub line_fault_words : LineFault → List ℕ
-line_fault_words line.BadHeader = codes "bad-header"
-line_fault_words (line.BadRow n) = codes "bad-row" ++ spaced (pos n)
-line_fault_words line.TooManyRows = codes "too-many-rows"
-line_fault_words (line.BadKind n) = codes "bad-kind" ++ spaced (pos n)
-line_fault_words (line.BadNumber n) = codes "bad-number" ++ spaced (pos n)
-line_fault_words (line.OutOfRange n) = codes "out-of-range" ++ spaced (pos n)
-line_fault_words (line.Gap n) = codes "gap" ++ spaced (pos n)
-line_fault_words line.NoSections = codes "no-sections"
-line_fault_words line.EndsDiffer = codes "ends-differ"
-line_fault_words line.NoMemory = []
-
--- the words of a fault of a service file
-abbrev pub service_fault_words : ServiceFault → List ℕ
-service_fault_words service.BadHeader = codes "bad-header"
-service_fault_words (service.BadRow n) = codes "bad-row" ++ spaced (pos n)
-service_fault_words service.TooManyRows = codes "too-many-rows"
-service_fault_words (service.BadNumber n) = codes "bad-number" ++ spaced (pos n)
-service_fault_words (service.OutOfRange n) = codes "out-of-range" ++ spaced (pos n)
-service_fault_words (service.NotRising n) = codes "not-rising" ++ spaced (pos n)
-service_fault_words service.TooFew = codes "too-few"
-service_fault_words service.NoFinalLatest = codes "no-final-latest"
-service_fault_words service.TooManyLatest = codes "too-many-latest"
-service_fault_words service.NoMemory = []
-
--- the keys of a train file, as they are spelled there
-abbrev pub key_name : Key → List ℕ
-key_name key.Version = codes "version"
-key_name key.Mass = codes "mass"
-key_name key.Inertia = codes "inertia"
-key_name key.A = codes "a"
-key_name key.B = codes "b"
-key_name key.C = codes "c"
-key_name key.Traction = codes "traction"
-key_name key.Brake = codes "brake"
-
--- the words of a fault of a train file
-abbrev pub train_fault_words : TrainFault → List ℕ
-train_fault_words train.Text = codes "text"
-train_fault_words (train.Missing k) = codes "missing" ++ 32 ∷ key_name k
-train_fault_words (train.WrongKind k) = codes "wrong-kind" ++ 32 ∷ key_name k
-train_fault_words (train.OutOfRange k) = codes "out-of-range" ++ 32 ∷ key_name k
-train_fault_words (train.TableStart k) = codes "table-start" ++ 32 ∷ key_name k
-train_fault_words (train.TableOrder k n) = codes "table-order" ++ 32 ∷ key_name k ++ spaced (pos n)
-train_fault_words (train.TableRises k n) = codes "table-rises" ++ 32 ∷ key_name k ++ spaced (pos n)
-train_fault_words train.TopsDiffer = codes "tops-differ"
-train_fault_words train.NoMemory = []
-
 -- ---- one file
 
--- the answer is a refusal
-pub record IsRefusal (role fault : List ℕ) (status : ℕ) (text : List ℕ) : Type 0 where
+-- the answer is a refusal in these words
+pub record IsRefusal (role words : List ℕ) (status : ℕ) (text : List ℕ) : Type 0 where
   pub ends : status ≡ 3
-  pub says : text ≡ refused_text role fault
+  pub says : text ≡ refused_text role words
 
 -- the file of this name can't be read, since the count of faults of its own name rose
 pub record IsReadFault (role name : List ℕ) (before now : List ℕ → ℕ) (status : ℕ) (text : List ℕ) : Type 0 where
@@ -133,14 +68,6 @@ MayRead role name told before now read words next status text =
     IsReadFault role name before now status text ⊎ ((file : List ℕ) × (MayHold (told name) file × IsFileAnswer role read words next file status text))
 
 -- ---- the three files of a line, a train and a service
-
--- the words of a refusal of the joined rules
-abbrev pub rules_fault_words : RulesFault → List ℕ
-rules_fault_words (rules.Outside n) = codes "outside" ++ spaced (pos n)
-rules_fault_words rules.TooManySteps = codes "too-many-steps"
-rules_fault_words (rules.StopsTooClose n) = codes "stops-too-close" ++ spaced (pos n)
-rules_fault_words (rules.DragTooGreat i) = codes "drag-too-great" ++ spaced (pos i)
-rules_fault_words rules.NoMemory = []
 
 -- at rest at the first call, with the clock at 0 and no stretch
 abbrev pub fresh_setup : Service → ℕ → Setup

@@ -18,10 +18,10 @@ IsFetched role name told before now (Ends answer) =
     IsReadFault role name before now answer.status answer.text.items
     ⊎ ((file : List ℕ) × (MayHold (told name) file × (most_bytes < length file) × IsRefusal role (codes "too-long") answer.status answer.text.items))
 
--- what the bytes of a file say, or the refusal of their first fault
-abbrev pub IsSaid : {A F : Type 0} → List ℕ → (List ℕ → Result A F) → (F → List ℕ) → List ℕ → Stage A → Type 0
-IsSaid role read words file (Read said) = read file ≡ Ok said
-IsSaid {A} {F} role read words file (Ends answer) = (fault : F) × ((read file ≡ Err fault) × IsRefusal role (words fault) answer.status answer.text.items)
+-- what was found in the file of this role, or the refusal by the words of its fault
+abbrev pub IsSaid : {A F : Type 0} → List ℕ → (F → List ℕ) → Result A F → Stage A → Type 0
+IsSaid role words found (Read said) = found ≡ Ok said
+IsSaid {A} {F} role words found (Ends answer) = (fault : F) × ((found ≡ Err fault) × IsRefusal role (words fault) answer.status answer.text.items)
 
 -- what the file of this role and name says, or the answer that ends the run there
 abbrev pub IsStage : {A F : Type 0} → List ℕ → List ℕ → (List ℕ → Told) → (List ℕ → ℕ) → (List ℕ → ℕ) → (List ℕ → Result A F) → (F → List ℕ) → Stage A → Type 0

@@ -5,8 +5,8 @@ use Rattle.std.specs.Str.{bytes_eq}
 use Rattle.rail_specs.specs.Numbers.{digits_number}
 use Rattle.clap.specs.Words.{App, Row, Rule, Text, fault_of, first_of, matches_of, new_app, new_rule, with_rule}
 use Rattle.clap.specs.Walk.{is_empty}
-use Rattle.advice_run.specs.declared.command.First.{First}
-use Rattle.advice_run.specs.declared.command.First.TheVariants.{FirstIsRoute, FirstIsPlan, FirstIsOther}
+use Rattle.advice_run.specs.declared.command.FirstWord.{FirstWord}
+use Rattle.advice_run.specs.declared.command.FirstWord.TheVariants as first_word
 use Rattle.clap.specs.declared.builder.action.ArgAction.TheVariants.{Set}
 
 -- a command with its names and numbers, or a word about usage
@@ -57,6 +57,7 @@ number_in low high text = option_and_then (in_range low high) (digits_number 10 
 
 -- ---- the commands
 
+-- `route` of the file of this name, or the usage where the tolerance is no number in its range
 abbrev pub route_of_number : Text → Option ℕ → Command
 route_of_number file None = Usage
 route_of_number file (Some tolerance) = Route file tolerance
@@ -66,6 +67,7 @@ abbrev pub route_of_rows : Option (List Row) → Command
 route_of_rows None = Usage
 route_of_rows (Some rows) = route_of_number (value_of (codes "file") rows) (number_in 0 1000 (value_of (codes "tolerance") rows))
 
+-- `plan` of the files of these names, or the usage where the step or the tolerance is no number in its range
 abbrev pub plan_of_numbers : Text → Text → Text → Option ℕ → Option ℕ → Command
 plan_of_numbers line train service None tolerance = Usage
 plan_of_numbers line train service (Some step) None = Usage
@@ -87,7 +89,7 @@ command_of (word ∷ words) =
     else Usage
 
 -- the command of words whose first word is this
-abbrev pub command_by : First → List (List ℕ) → Command
-command_by FirstIsRoute words = route_of_rows (taken route_app words)
-command_by FirstIsPlan words = plan_of_rows (taken plan_app words)
-command_by FirstIsOther words = Usage
+abbrev pub command_by : FirstWord → List (List ℕ) → Command
+command_by first_word.Route words = route_of_rows (taken route_app words)
+command_by first_word.Plan words = plan_of_rows (taken plan_app words)
+command_by first_word.Other words = Usage

@@ -1,10 +1,10 @@
 //! Answers, and the texts of refusals and faults.
 
-ghost use Rattle.std.specs.Prelude.{◌≡◌, ◌≤◌, ◌++◌, ◌∷◌, ℕ, List, pos, codes, IfOk};
-ghost use Rattle.rail_specs.specs.Report.{spaced};
-ghost use Rattle.advice_run.specs.Outcome.{IsRefusal, read_fault_text as text_of_read_fault, usage_text as text_of_usage};
+ghost use Rattle.std.specs.Prelude.{◌≡◌, ◌≢◌, ◌≤◌, ◌++◌, ◌∷◌, ℕ, List, codes, IfOk, OnOk};
+ghost use Rattle.advice_run.specs.Outcome.{IsRefusal, read_fault_text, usage_text};
 
-use rail_base::put_number;
+use crate::fault_words::Fault;
+use crate::status;
 use std::alloc::{AllocError, Global};
 
 /// A line for each command.
@@ -21,40 +21,49 @@ pub struct Answer {
 
 /// The text about usage.
 pub fn usage(alloc: Global) -> Result<Answer, AllocError>
-    ensures { IfOk result (λ a. (a.status ≡ 2) × (a.text.items ≡ text_of_usage)) }
+    ensures { IfOk result (λ a. (a.status ≡ 2) × (a.text.items ≡ usage_text)) }
 {
     let text = Vec::from_slice(alloc, USAGE)?;
-    Ok(Answer { status: 2, text })
+    Ok(Answer {
+        status: status::USAGE,
+        text,
+    })
 }
 
 /// The answer that the file of this role can't be read.
 pub fn read_fault(alloc: Global, role: &[u8]) -> Result<Answer, AllocError>
-    ensures { IfOk result (λ a. (a.status ≡ 6) × (a.text.items ≡ text_of_read_fault role.now)) }
+    ensures { IfOk result (λ a. (a.status ≡ 6) × (a.text.items ≡ read_fault_text role.now)) }
 {
     let mut text = Vec::from_slice(alloc, b"read fault ")?;
     text.extend_from_slice(role)?;
     text.push(b'\n')?;
-    Ok(Answer { status: 6, text })
+    Ok(Answer {
+        status: status::READ_FAULT,
+        text,
+    })
 }
 
-/// The answer that the file of this role, or the rules, are refused.
-pub fn refusal(alloc: Global, role: &[u8], fault: &[u8]) -> Result<Answer, AllocError>
-    ensures { IfOk result (λ a. IsRefusal role.now fault.now a.status a.text.items) }
+/// The answer that the file of this role, or the rules, are refused in these words.
+pub fn refusal(alloc: Global, role: &[u8], words: &[u8]) -> Result<Answer, AllocError>
+    ensures { IfOk result (λ a. IsRefusal role.now words.now a.status a.text.items) }
 {
     let mut text = Vec::from_slice(alloc, b"refused ")?;
     text.extend_from_slice(role)?;
     text.push(b' ')?;
-    text.extend_from_slice(fault)?;
+    text.extend_from_slice(words)?;
     text.push(b'\n')?;
-    Ok(Answer { status: 3, text })
+    Ok(Answer {
+        status: status::REFUSED,
+        text,
+    })
 }
 
-/// A word and a number.
-pub fn numbered(alloc: Global, word: &[u8], number: u32) -> Result<Vec<u8>, AllocError>
-    ensures { IfOk result (λ text. text.items ≡ word.now ++ spaced (pos number)) }
+/// The answer that the file of this role, or the rules, are refused for this fault. The only error is want of memory,
+/// which the fault may itself be.
+pub fn refusal_of<F: Fault>(alloc: Global, role: &[u8], fault: F) -> Result<Answer, AllocError>
+    ensures sound { OnOk result (fault ≢ F.no_memory) }
+    ensures says { IfOk result (λ a. IsRefusal role.now (F.words_of fault) a.status a.text.items) }
 {
-    let mut text = Vec::from_slice(alloc, word)?;
-    text.push(b' ')?;
-    put_number(alloc, &mut text, number as i128)?;
-    Ok(text)
+    let words = fault.words(alloc)?;
+    refusal(alloc, role, words.as_slice())
 }

@@ -88,7 +88,7 @@ fn value_of<'a>(matches: &ArgMatches<'a>, id: &str) -> &'a str
 }
 
 /// The number of 1 to 10 decimal digits in a range.
-pub fn number_in(text: &str, low: u32, high: u32) -> Option<u32>
+fn number_in(text: &str, low: u32, high: u32) -> Option<u32>
     ensures value { result ≡ number_in low high text.now }
     ensures within { IfSome result (λ n. (low ≤ n) × (n ≤ high)) }
 {
@@ -105,6 +105,7 @@ pub struct RouteWords<'a> {
     pub file: &'a str,
     /// The tolerance, per mille, 0 to 1,000.
     pub tolerance: u32,
+    pub ghost tolerance_within: { tolerance ≤ 1000 },
 }
 
 /// The names and numbers of the command `route`, or none where the words are refused.
@@ -112,30 +113,24 @@ pub fn read_route_words<'a>(
     alloc: Global,
     words: &'a Words,
 ) -> Result<Option<RouteWords<'a>>, AllocError>
-    ensures { IfOk result (λ r. MatchOption r (route_of_rows (taken route_app words.entry.now) ≡ Usage) (λ w. (route_of_rows (taken route_app words.entry.now) ≡ Route w.file.now w.tolerance) × (w.tolerance ≤ 1000))) }
+    ensures { IfOk result (λ r. MatchOption r (route_of_rows (taken route_app words.entry.now) ≡ Usage) (λ w. route_of_rows (taken route_app words.entry.now) ≡ Route w.file.now w.tolerance)) }
 {
-    let command = match route_command(alloc) {
-        Ok(command) => command,
-        Err(_) => return Err(AllocError),
-    };
-    match matches_of(command, words) {
-        Ok(Some(matches)) => Ok(route_words(&matches)),
-        Ok(None) => Ok(None),
-        Err(_) => Err(AllocError),
+    let command = route_command(alloc)?;
+    match matches_of(command, words)? {
+        Some(matches) => Ok(route_words(&matches)),
+        None => Ok(None),
     }
 }
 
 /// What the matches of the command `route` say, or none where a number is refused.
 fn route_words<'a>(matches: &ArgMatches<'a>) -> Option<RouteWords<'a>>
-    ensures { MatchOption result (route_of_rows (Some (rows_of (found_of matches.now))) ≡ Usage) (λ w. (route_of_rows (Some (rows_of (found_of matches.now))) ≡ Route w.file.now w.tolerance) × (w.tolerance ≤ 1000)) }
+    ensures { MatchOption result (route_of_rows (Some (rows_of (found_of matches.now))) ≡ Usage) (λ w. route_of_rows (Some (rows_of (found_of matches.now))) ≡ Route w.file.now w.tolerance) }
 {
-    match number_in(value_of(matches, "tolerance"), 0, 1000) {
-        Some(tolerance) => Some(RouteWords {
-            file: value_of(matches, "file"),
-            tolerance,
-        }),
-        None => None,
-    }
+    let tolerance = number_in(value_of(matches, "tolerance"), 0, 1000)?;
+    Some(RouteWords {
+        file: value_of(matches, "file"),
+        tolerance,
+    })
 }
 
 /// The names and numbers of the command `plan`.
@@ -151,6 +146,8 @@ pub struct PlanWords<'a> {
     pub step: u32,
     /// The tolerance, per mille, 0 to 1,000.
     pub tolerance: u32,
+    pub ghost step_within: { (10 ≤ step) × (step ≤ 1000) },
+    pub ghost tolerance_within: { tolerance ≤ 1000 },
 }
 
 /// The names and numbers of the command `plan`, or none where the words are refused.
@@ -158,36 +155,26 @@ pub fn read_plan_words<'a>(
     alloc: Global,
     words: &'a Words,
 ) -> Result<Option<PlanWords<'a>>, AllocError>
-    ensures { IfOk result (λ r. MatchOption r (plan_of_rows (taken plan_app words.entry.now) ≡ Usage) (λ w. (plan_of_rows (taken plan_app words.entry.now) ≡ Plan w.line.now w.train.now w.service.now w.step w.tolerance) × (10 ≤ w.step) × (w.step ≤ 1000) × (w.tolerance ≤ 1000))) }
+    ensures { IfOk result (λ r. MatchOption r (plan_of_rows (taken plan_app words.entry.now) ≡ Usage) (λ w. plan_of_rows (taken plan_app words.entry.now) ≡ Plan w.line.now w.train.now w.service.now w.step w.tolerance)) }
 {
-    let command = match plan_command(alloc) {
-        Ok(command) => command,
-        Err(_) => return Err(AllocError),
-    };
-    match matches_of(command, words) {
-        Ok(Some(matches)) => Ok(plan_words(&matches)),
-        Ok(None) => Ok(None),
-        Err(_) => Err(AllocError),
+    let command = plan_command(alloc)?;
+    match matches_of(command, words)? {
+        Some(matches) => Ok(plan_words(&matches)),
+        None => Ok(None),
     }
 }
 
 /// What the matches of the command `plan` say, or none where a number is refused.
 fn plan_words<'a>(matches: &ArgMatches<'a>) -> Option<PlanWords<'a>>
-    ensures { MatchOption result (plan_of_rows (Some (rows_of (found_of matches.now))) ≡ Usage) (λ w. (plan_of_rows (Some (rows_of (found_of matches.now))) ≡ Plan w.line.now w.train.now w.service.now w.step w.tolerance) × (10 ≤ w.step) × (w.step ≤ 1000) × (w.tolerance ≤ 1000)) }
+    ensures { MatchOption result (plan_of_rows (Some (rows_of (found_of matches.now))) ≡ Usage) (λ w. plan_of_rows (Some (rows_of (found_of matches.now))) ≡ Plan w.line.now w.train.now w.service.now w.step w.tolerance) }
 {
-    let step = number_in(value_of(matches, "step"), 10, 1000);
-    let tolerance = number_in(value_of(matches, "tolerance"), 0, 1000);
-    let line = value_of(matches, "line");
-    let train = value_of(matches, "train");
-    let service = value_of(matches, "service");
-    match (step, tolerance) {
-        (Some(step), Some(tolerance)) => Some(PlanWords {
-            line,
-            train,
-            service,
-            step,
-            tolerance,
-        }),
-        _ => None,
-    }
+    let step = number_in(value_of(matches, "step"), 10, 1000)?;
+    let tolerance = number_in(value_of(matches, "tolerance"), 0, 1000)?;
+    Some(PlanWords {
+        line: value_of(matches, "line"),
+        train: value_of(matches, "train"),
+        service: value_of(matches, "service"),
+        step,
+        tolerance,
+    })
 }

@@ -4,12 +4,16 @@
 mod answer;
 mod command;
 mod command_line;
+mod fault_words;
 mod files;
-mod joined;
 mod plan;
 mod program;
+mod route;
+mod rules;
 mod stage;
+mod status;
 mod words;
 
 pub use program::run;
+pub use status::NO_MEMORY;
 pub use words::Words;

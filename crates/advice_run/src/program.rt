@@ -6,17 +6,12 @@ ghost use Rattle.advice_run.specs.Words.{command_of};
 ghost use Rattle.advice_run.specs.Outcome.{Wrote, WroteFront, Names};
 
 use crate::command::answer;
+use crate::status;
 use crate::words::Words;
 use edge_io::{Shelf, Sink, put_all};
 use std::alloc::Global;
 use std::sync::ledger::Ledger;
 use step_energy::Steps;
-
-/// The status of a write fault.
-const WRITE_FAULT: u8 = 7;
-
-/// The status of want of memory.
-const NO_MEMORY: u8 = 8;
 
 /// Does all that the program does: reads what the words ask for, fetches the files that they name, and writes one text.
 /// It gives the status that the program ends with:
@@ -56,8 +51,8 @@ pub fn run<S: Shelf, K: Sink, L: Ledger>(
     match answer(alloc, words, shelf, steps) {
         Ok(answer) => match put_all(sink, answer.text.as_slice()) {
             Ok(()) => answer.status,
-            Err(_) => WRITE_FAULT,
+            Err(_) => status::WRITE_FAULT,
         },
-        Err(_) => NO_MEMORY,
+        Err(_) => status::NO_MEMORY,
     }
 }

@@ -1,9 +1,10 @@
-//! A stage of a run: one file is fetched and measured.
+//! A stage of a run: one file is fetched, measured and read.
 
-ghost use Rattle.std.specs.Prelude.{◌≡◌, ◌≢◌, ◌≤◌, ℕ, List, IfOk};
-ghost use Rattle.advice_run.specs.Stage.{IsFetched, IsMeasured};
+ghost use Rattle.std.specs.Prelude.{◌≡◌, ◌≢◌, ◌≤◌, ℕ, List, Err, IfOk, OnOk};
+ghost use Rattle.advice_run.specs.Stage.{IsFetched, IsMeasured, IsSaid};
 
-use crate::answer::{Answer, read_fault, refusal};
+use crate::answer::{Answer, read_fault, refusal, refusal_of};
+use crate::fault_words::Fault;
 use edge_io::{FetchFault, Shelf};
 use std::alloc::{AllocError, Global};
 
@@ -47,5 +48,24 @@ pub fn fetch<S: Shelf>(
             Ok(Stage::Ends(answer))
         }
         Err(FetchFault::NoMemory) => Err(AllocError),
+    }
+}
+
+/// What a reader found in the file of this role, or the refusal of its fault. The only error is want of memory, which
+/// the fault may itself be.
+pub fn said<T: Drop, F: Fault>(
+    alloc: Global,
+    role: &[u8],
+    found: Result<T, F>,
+) -> Result<Stage<T>, AllocError>
+    ensures sound { OnOk result (found ≢ Err F.no_memory) }
+    ensures said { IfOk result (IsSaid role.now F.words_of found) }
+{
+    match found {
+        Ok(said) => Ok(Stage::Read(said)),
+        Err(fault) => {
+            let answer = refusal_of(alloc, role, fault)?;
+            Ok(Stage::Ends(answer))
+        }
     }
 }

@@ -2,7 +2,7 @@ use Rattle.std.proofs.Common.{ℕ, Vec}
 use Rattle.std.specs.declared.alloc.Global.{Global}
 use Rattle.advice_run.specs.Stage.{IsMeasured, IsFetched}
 use Rattle.advice_run.specs.declared.stage.Stage.{Stage}
-use Rattle.advice_run.proofs.PlanLemmas.{ok_map}
+use Rattle.advice_run.proofs.AnswerLemmas.{ok_map}
 use Rattle.advice_run.proofs.StageLemmas.{fetched_from}
 use Rattle.advice_run.proofs.stage.fetch.Goals as goal
 

@@ -8,10 +8,12 @@ use Rattle.rail_specs.specs.Cost.{traction_cost, int_sum_below, cost_of, IsBound
 use Rattle.rail_specs.specs.Report.{late_text, report_text}
 use Rattle.rail_specs.specs.Plan.{IsPlanAnswer}
 
+-- nothing comes back
 not_negative : (z : ℤ) → pos 0 ≤ℤ traction_cost z
 not_negative (pos n) = omega (arith, ints)
 not_negative (negsuc n) = omega (arith, ints)
 
+-- nor from many steps
 sum_not_negative : (f : ℕ → ℤ) (n : ℕ) → pos 0 ≤ℤ int_sum_below (λ i. traction_cost (f i)) n
 sum_not_negative f zero = omega (arith, ints)
 sum_not_negative f (suc n) = omega (arith, ints, sum_not_negative f n, not_negative (f n))
@@ -20,6 +22,7 @@ sum_not_negative f (suc n) = omega (arith, ints, sum_not_negative f n, not_negat
 pub nothing_is_bound : (r : Rules) → IsBound traction_cost r (pos 0)
 nothing_is_bound r speeds d t = sum_not_negative (work_at r speeds) (length r.steps)
 
+-- the greatest drive is on time
 pub drive_answer : (r : Rules) (tolerance status : ℕ) (text speeds : List ℕ) (energy : ℤ) (met : Bool) → IsGreatestDrive r speeds → IsOnTimeUp r speeds
     → energy ≡ cost_of traction_cost r speeds → (IsTrue met ↔ GapMet energy (pos 0) tolerance) → status ≡ (if met then 0 else 1)
     → text ≡ report_text r speeds energy (pos 0) met → IsPlanAnswer r tolerance status text
@@ -45,6 +48,7 @@ drive_answer r tolerance status text speeds energy met g t e m s x = inr (inr (
   ),
 ))
 
+-- no drive is on time
 pub late_answer : (r : Rules) (tolerance : ℕ) (text speeds : List ℕ) (j : ℕ) → IsGreatestDrive r speeds → NoneOnTime r → IsFirstLate r speeds j
     → text ≡ late_text r j (arrival_up r speeds (timing_at r j).point) → IsPlanAnswer r tolerance 5 text
 late_answer r tolerance text speeds j g n f x = inr (inl (

@@ -2,12 +2,13 @@ use Rattle.std.proofs.Common.{List, ℕ, codes}
 use Rattle.train_file.specs.declared.train.Train.{Train}
 use Rattle.train_file.specs.TrainText.{train_of}
 use Rattle.rail_specs.specs.Faults.{Told}
-use Rattle.advice_run.specs.Outcome.{AfterLine, AfterTrain, train_fault_words}
+use Rattle.advice_run.specs.Outcome.{AfterLine, AfterTrain}
+use Rattle.advice_run.specs.FaultWords.{train_fault_words}
 use Rattle.advice_run.specs.declared.answer.Answer.{Answer}
-use Rattle.advice_run.proofs.PlanLemmas.{ok_map}
+use Rattle.advice_run.proofs.AnswerLemmas.{ok_map}
 use Rattle.advice_run.proofs.StageLemmas.{ends_there, goes_on}
 use Rattle.advice_run.proofs.JoinedLemmas.{after_train_carried}
-use Rattle.advice_run.proofs.joined.after_line.Goals as goal
+use Rattle.advice_run.proofs.plan.after_line.Goals as goal
 
 pub returns-in-Read-clause-may : goal.returns-in-Read-clause-may
 returns-in-Read-clause-may g c =

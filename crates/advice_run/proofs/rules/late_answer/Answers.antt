@@ -1,7 +1,7 @@
 use Rattle.std.proofs.Common.{◌∙◌, ap}
 use Rattle.rail_specs.specs.Report.{late_text}
-use Rattle.advice_run.proofs.PlanLemmas.{late_answer}
-use Rattle.advice_run.proofs.plan.late_answer.Goals as goal
+use Rattle.advice_run.proofs.AnswerLemmas.{late_answer}
+use Rattle.advice_run.proofs.rules.late_answer.Goals as goal
 
 pub returns : goal.returns
 returns c =

@@ -2,11 +2,12 @@ use Rattle.std.proofs.Common.{List, ℕ, codes}
 use Rattle.line_file.specs.declared.service.Service.{Service}
 use Rattle.line_file.specs.ServiceText.{service_of}
 use Rattle.rail_specs.specs.Faults.{Told}
-use Rattle.advice_run.specs.Outcome.{AfterTrain, IsJoinedAnswer, service_fault_words}
+use Rattle.advice_run.specs.Outcome.{AfterTrain, IsJoinedAnswer}
+use Rattle.advice_run.specs.FaultWords.{service_fault_words}
 use Rattle.advice_run.specs.declared.answer.Answer.{Answer}
-use Rattle.advice_run.proofs.PlanLemmas.{ok_map}
+use Rattle.advice_run.proofs.AnswerLemmas.{ok_map}
 use Rattle.advice_run.proofs.StageLemmas.{ends_there, goes_on}
-use Rattle.advice_run.proofs.joined.after_train.Goals as goal
+use Rattle.advice_run.proofs.plan.after_train.Goals as goal
 
 pub returns-in-Read-clause-may : goal.returns-in-Read-clause-may
 returns-in-Read-clause-may g c =

@@ -3,12 +3,13 @@ use Rattle.line_file.specs.declared.line.Line.{Line}
 use Rattle.line_file.specs.LineText.{line_of}
 use Rattle.rail_specs.specs.Faults.{Told}
 use Rattle.advice_run.specs.Words.{Plan}
-use Rattle.advice_run.specs.Outcome.{AfterLine, MayWrite, line_fault_words}
+use Rattle.advice_run.specs.Outcome.{AfterLine, MayWrite}
+use Rattle.advice_run.specs.FaultWords.{line_fault_words}
 use Rattle.advice_run.specs.declared.answer.Answer.{Answer}
-use Rattle.advice_run.proofs.PlanLemmas.{ok_map}
+use Rattle.advice_run.proofs.AnswerLemmas.{ok_map}
 use Rattle.advice_run.proofs.StageLemmas.{ends_there, goes_on}
 use Rattle.advice_run.proofs.JoinedLemmas.{after_line_carried}
-use Rattle.advice_run.proofs.joined.answer_plan.Goals as goal
+use Rattle.advice_run.proofs.plan.answer_plan.Goals as goal
 
 pub returns-in-Read-clause-may : goal.returns-in-Read-clause-may
 returns-in-Read-clause-may g c =

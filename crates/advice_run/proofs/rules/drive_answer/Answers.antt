@@ -1,9 +1,9 @@
 use Rattle.std.proofs.Common.{arith, ◌≡◌, to_z, of_z}
 use Rattle.std.proofs.lemmas.Int.{ints}
 use mir.Syntax.{w128}
-use Rattle.advice_run.proofs.PlanLemmas.{drive_answer}
-use Rattle.advice_run.proofs.plan.drive_answer.Goals as goal
-use Rattle.advice_run.proofs.plan.drive_answer.Goals.{then-met, else-met}
+use Rattle.advice_run.proofs.AnswerLemmas.{drive_answer}
+use Rattle.advice_run.proofs.rules.drive_answer.Goals as goal
+use Rattle.advice_run.proofs.rules.drive_answer.Goals.{then-met, else-met}
 
 pub returns : goal.returns
 returns c =

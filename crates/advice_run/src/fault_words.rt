@@ -1,0 +1,177 @@
+//! The words of faults.
+
+ghost use Rattle.std.specs.Prelude.{◌≡◌, ◌≢◌, ◌++◌, ◌∷◌, ℕ, List, pos, IfOk, OnOk};
+ghost use Rattle.rail_specs.specs.Report.{spaced};
+ghost use Rattle.advice_run.specs.FaultWords.{key_name};
+
+use drive_rules::{RouteFault, RulesFault};
+use line_file::{LineFault, ServiceFault};
+use rail_base::put_number;
+use std::alloc::{AllocError, Global};
+use train_file::{Key, TrainFault};
+
+/// Why a file, or the rules that files give together, are refused. One fault is want of memory.
+pub trait Fault: Copy {
+    /// The fault that is want of memory.
+    ghost no_memory: { Self };
+
+    /// The words of a fault.
+    ghost words_of: { Self → List ℕ };
+
+    /// The words of this fault. The only error is want of memory, which this fault may itself be.
+    fn words(self, alloc: Global) -> Result<Vec<u8>, AllocError>
+        ensures sound { OnOk result (self ≢ no_memory) }
+        ensures words { IfOk result (λ text. text.items ≡ words_of self) };
+}
+
+/// A word and a number.
+fn numbered(alloc: Global, word: &[u8], number: u32) -> Result<Vec<u8>, AllocError>
+    ensures { IfOk result (λ text. text.items ≡ word.now ++ spaced (pos number)) }
+{
+    let mut text = Vec::from_slice(alloc, word)?;
+    text.push(b' ')?;
+    put_number(alloc, &mut text, number as i128)?;
+    Ok(text)
+}
+
+/// The name of a key of a train file.
+fn key_name(key: Key) -> &'static [u8]
+    ensures { result.now ≡ key_name key }
+{
+    match key {
+        Key::Version => b"version",
+        Key::Mass => b"mass",
+        Key::Inertia => b"inertia",
+        Key::A => b"a",
+        Key::B => b"b",
+        Key::C => b"c",
+        Key::Traction => b"traction",
+        Key::Brake => b"brake",
+    }
+}
+
+/// A word and a key.
+fn keyed(alloc: Global, word: &[u8], key: Key) -> Result<Vec<u8>, AllocError>
+    ensures { IfOk result (λ text. text.items ≡ word.now ++ 32 ∷ key_name key) }
+{
+    let mut text = Vec::from_slice(alloc, word)?;
+    text.push(b' ')?;
+    text.extend_from_slice(key_name(key))?;
+    Ok(text)
+}
+
+/// A word, a key and the number of a row.
+fn keyed_row(alloc: Global, word: &[u8], key: Key, row: u32) -> Result<Vec<u8>, AllocError>
+    ensures { IfOk result (λ text. text.items ≡ word.now ++ 32 ∷ key_name key ++ spaced (pos row)) }
+{
+    let text = keyed(alloc, word, key)?;
+    numbered(alloc, text.as_slice(), row)
+}
+
+impl Fault for RouteFault {
+    ghost use Rattle.rail_specs.specs.declared.RouteFault.TheVariants.{NoMemory};
+    ghost use Rattle.advice_run.specs.FaultWords.{route_fault_words};
+
+    ghost no_memory = { NoMemory };
+
+    ghost words_of = { route_fault_words };
+
+    fn words(self, alloc: Global) -> Result<Vec<u8>, AllocError> {
+        match self {
+            RouteFault::Form(line) => numbered(alloc, b"form", line),
+            RouteFault::Range(line) => numbered(alloc, b"range", line),
+            RouteFault::TooManySteps => Vec::from_slice(alloc, b"too-many-steps"),
+            RouteFault::NoMemory => Err(AllocError),
+        }
+    }
+}
+
+impl Fault for LineFault {
+    ghost use Rattle.line_file.specs.declared.line.LineFault.TheVariants.{NoMemory};
+    ghost use Rattle.advice_run.specs.FaultWords.{line_fault_words};
+
+    ghost no_memory = { NoMemory };
+
+    ghost words_of = { line_fault_words };
+
+    fn words(self, alloc: Global) -> Result<Vec<u8>, AllocError> {
+        match self {
+            LineFault::BadHeader => Vec::from_slice(alloc, b"bad-header"),
+            LineFault::BadRow(row) => numbered(alloc, b"bad-row", row),
+            LineFault::TooManyRows => Vec::from_slice(alloc, b"too-many-rows"),
+            LineFault::BadKind(row) => numbered(alloc, b"bad-kind", row),
+            LineFault::BadNumber(row) => numbered(alloc, b"bad-number", row),
+            LineFault::OutOfRange(row) => numbered(alloc, b"out-of-range", row),
+            LineFault::Gap(row) => numbered(alloc, b"gap", row),
+            LineFault::NoSections => Vec::from_slice(alloc, b"no-sections"),
+            LineFault::EndsDiffer => Vec::from_slice(alloc, b"ends-differ"),
+            LineFault::NoMemory => Err(AllocError),
+        }
+    }
+}
+
+impl Fault for ServiceFault {
+    ghost use Rattle.line_file.specs.declared.service.ServiceFault.TheVariants.{NoMemory};
+    ghost use Rattle.advice_run.specs.FaultWords.{service_fault_words};
+
+    ghost no_memory = { NoMemory };
+
+    ghost words_of = { service_fault_words };
+
+    fn words(self, alloc: Global) -> Result<Vec<u8>, AllocError> {
+        match self {
+            ServiceFault::BadHeader => Vec::from_slice(alloc, b"bad-header"),
+            ServiceFault::BadRow(row) => numbered(alloc, b"bad-row", row),
+            ServiceFault::TooManyRows => Vec::from_slice(alloc, b"too-many-rows"),
+            ServiceFault::BadNumber(row) => numbered(alloc, b"bad-number", row),
+            ServiceFault::OutOfRange(row) => numbered(alloc, b"out-of-range", row),
+            ServiceFault::NotRising(row) => numbered(alloc, b"not-rising", row),
+            ServiceFault::TooFew => Vec::from_slice(alloc, b"too-few"),
+            ServiceFault::NoFinalLatest => Vec::from_slice(alloc, b"no-final-latest"),
+            ServiceFault::TooManyLatest => Vec::from_slice(alloc, b"too-many-latest"),
+            ServiceFault::NoMemory => Err(AllocError),
+        }
+    }
+}
+
+impl Fault for TrainFault {
+    ghost use Rattle.train_file.specs.declared.fault.TrainFault.TheVariants.{NoMemory};
+    ghost use Rattle.advice_run.specs.FaultWords.{train_fault_words};
+
+    ghost no_memory = { NoMemory };
+
+    ghost words_of = { train_fault_words };
+
+    fn words(self, alloc: Global) -> Result<Vec<u8>, AllocError> {
+        match self {
+            TrainFault::Text => Vec::from_slice(alloc, b"text"),
+            TrainFault::Missing(key) => keyed(alloc, b"missing", key),
+            TrainFault::WrongKind(key) => keyed(alloc, b"wrong-kind", key),
+            TrainFault::OutOfRange(key) => keyed(alloc, b"out-of-range", key),
+            TrainFault::TableStart(key) => keyed(alloc, b"table-start", key),
+            TrainFault::TableOrder(key, row) => keyed_row(alloc, b"table-order", key, row),
+            TrainFault::TableRises(key, row) => keyed_row(alloc, b"table-rises", key, row),
+            TrainFault::TopsDiffer => Vec::from_slice(alloc, b"tops-differ"),
+            TrainFault::NoMemory => Err(AllocError),
+        }
+    }
+}
+
+impl Fault for RulesFault {
+    ghost use Rattle.drive_rules.specs.declared.joined.fault.RulesFault.TheVariants.{NoMemory};
+    ghost use Rattle.advice_run.specs.FaultWords.{rules_fault_words};
+
+    ghost no_memory = { NoMemory };
+
+    ghost words_of = { rules_fault_words };
+
+    fn words(self, alloc: Global) -> Result<Vec<u8>, AllocError> {
+        match self {
+            RulesFault::Outside(call) => numbered(alloc, b"outside", call),
+            RulesFault::TooManySteps => Vec::from_slice(alloc, b"too-many-steps"),
+            RulesFault::StopsTooClose(call) => numbered(alloc, b"stops-too-close", call),
+            RulesFault::DragTooGreat(step) => numbered(alloc, b"drag-too-great", step),
+            RulesFault::NoMemory => Err(AllocError),
+        }
+    }
+}
