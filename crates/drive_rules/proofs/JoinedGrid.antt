@@ -19,6 +19,7 @@ use Rattle.drive_rules.specs.Joined.{AreGridPlaces, ForNone, IsOutside, IsSetup,
 use Rattle.drive_rules.specs.JoinedParts.{AreCut, Follow}
 use Rattle.drive_rules.proofs.JoinedRising.{places_order, places_not_above, calls_rise}
 
+-- a place of the grid lies between its ends
 pub place_low : (marks : List ℕ) (step from to p : ℕ) → from < to → IsPlace marks step from to p → from ≤ p
 place_low marks step from to p span h = elim h [ inl e ↦ omega (arith, e) | inr o ↦ elim o [ inl e ↦ omega (arith, e, span) | inr b ↦ omega (arith, b.0) ] ]
 
@@ -34,6 +35,7 @@ index_of marks step from to places g p h =
     let c : Contains places p = (g.members p).1 h in
     (c.0, c.1, get_or_default places c.0 0 p c.1 ∙ c.2)
 
+-- the first place is the start, and the last the end
 pub first_is : (marks : List ℕ) (step from to : ℕ) (places : List ℕ) → IsGrid marks step from to places → from < to → get_or places 0 0 ≡ from
 first_is marks step from to places g span =
     let c : (k : ℕ) × (k < length places) × (get_or places k 0 ≡ from) = index_of marks step from to places g from (inl (λ i. from)) in
@@ -48,6 +50,7 @@ last_is marks step from to places g span =
     let b : get_or places c.0 0 ≤ get_or places (length places - 1) 0 = places_not_above places g.rises c.0 (length places - 1) (omega (arith, c.1)) last in
     omega (arith, b, c.2, place_high marks step from to (get_or places (length places - 1) 0) span (place_at marks step from to places g (length places - 1) last))
 
+-- so there are two or more
 pub two_places : (marks : List ℕ) (step from to : ℕ) (places : List ℕ) → IsGrid marks step from to places → from < to → 2 ≤ length places
 two_places marks step from to places g span = elim (cases_lt 1 (length places)) [
   | inl b ↦ omega (arith, b)
@@ -63,6 +66,7 @@ next_at marks step from to places g i p l h above =
     let order : i < c.0 = places_order places g.rises i c.0 (omega (arith, l)) (omega (arith, above, c.2)) in
     omega (arith, c.2, places_not_above places g.rises (i + 1) c.0 (omega (arith, order)) c.1)
 
+-- no step of the grid is longer than its step length: a multiple of that lies between any two places further apart
 pub short_steps : (marks : List ℕ) (step from to : ℕ) (places : List ℕ) → IsGrid marks step from to places → from < to → 1 ≤ step → (i : ℕ) → i + 1 < length places → get_or places (i + 1) 0 ≤ get_or places i 0 + step
 short_steps marks step from to places g span some i l =
     let s : ℕ = get_or places i 0 in
@@ -95,6 +99,7 @@ cut marks step from to places sections g span follow some small begins ends mark
       ];
 }
 
+-- what a list of values has of an element
 mapped : {X : Type 0} (f : X → ℕ) (xs : List X) (k : ℕ) (d : X) → k < length xs → Contains (map f xs) (f (get_or xs k d))
 mapped f xs k d l = (k, omega (arith, l, length-map xs f), get_or-map f xs k d (f (get_or xs k d)) l)
 
@@ -118,6 +123,7 @@ call_place line service setup j s l after =
       | inr g ↦ (let e : j ≡ length calls - 1 = omega (arith, l, g) in inr (inl (ap (λ (k : ℕ). (call_at calls k).place) e)))
     ]
 
+-- the sections of both kinds are cut by the grid
 pub limits_cut : (line : Line) (service : Service) (setup : Setup) (places : List ℕ) → IsLine line → IsService service → IsSetup service setup →
     ForNone (IsOutside line service.calls) (length service.calls) → AreGridPlaces line service setup places → AreCut line.limits places
 limits_cut line service setup places h s u on g =

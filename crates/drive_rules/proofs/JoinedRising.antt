@@ -25,7 +25,7 @@ timings_rise timings h = rises_to (λ k. (get_or timings k no_timing).point) (le
 pub places_rise : (places : List ℕ) → Rising places → (i j : ℕ) → i < j → j < length places → get_or places i 0 < get_or places j 0
 places_rise places h = rises_to (λ k. get_or places k 0) (length places) h
 
--- a place lies at or below another place of its list exactly where it stands no later
+-- a place below another of its list stands before it
 pub places_order : (places : List ℕ) → Rising places → (i j : ℕ) → i < length places → get_or places i 0 < get_or places j 0 → i < j
 places_order places h i j l m = elim (cases_lt i j) [
   | inl b ↦ b
@@ -35,6 +35,7 @@ places_order places h i j l m = elim (cases_lt i j) [
   ]
 ]
 
+-- a place that stands no later than another lies at or below it
 pub places_not_above : (places : List ℕ) → Rising places → (i j : ℕ) → i ≤ j → j < length places → get_or places i 0 ≤ get_or places j 0
 places_not_above places h i j l m = elim (cases_eq i j) [
   | inl e ↦ (let s : get_or places i 0 ≡ get_or places j 0 = ap (λ (k : ℕ). get_or places k 0) e in omega (arith, s))

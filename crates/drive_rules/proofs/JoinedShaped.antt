@@ -1,9 +1,9 @@
 -- Joined rules have the shape of the rules of every run.
-use Rattle.std.proofs.Common.{ℕ, ℤ, ◌≡◌, ◌<◌, ◌≤◌, ◌+◌, ◌-◌, ◌*◌, ◌∙◌, ◌⊎◌, ◌==◌, List, Bool, true, false, Option, Some, None, length, get_or, subst, sym, ap, arith, inl, inr, refl, pos, negsuc}
+use Rattle.std.proofs.Common.{ℕ, ℤ, ◌≡◌, ◌<◌, ◌≤◌, ◌+◌, ◌-◌, ◌*◌, ◌∙◌, ◌==◌, List, Bool, true, false, Option, Some, None, length, get_or, subst, sym, ap, arith, inl, inr, refl, pos, negsuc}
 use Rattle.std.specs.Prelude.{IfSome, IsSome, MatchBool}
 use Rattle.std.specs.Int.RustNames.{unsigned_abs}
 use Rattle.std.proofs.lemmas.Int.{ints}
-use Rattle.std.proofs.lemmas.Bool.{cases_lt, cases_eq, ne_eqb, eq-eqb, false≢true}
+use Rattle.std.proofs.lemmas.Bool.{cases_Bool, cases_lt, cases_eq, ne_eqb, eq-eqb, false≢true}
 use Rattle.std.proofs.lemmas.List.{get_or_past}
 use Rattle.std.proofs.lemmas.List.Elements.{All-from_get_or}
 use Rattle.rail_specs.specs.declared.StepNumbers.{StepNumbers}
@@ -72,20 +72,16 @@ first_dwell calls places stop dwell is = elim (cases_lt is.at (length calls)) [
       is.dwell_is ∙ rw (last, call) refl)
 ]
 
-either : (b : Bool) → (b ≡ true) ⊎ (b ≡ false)
-either true = inl refl
-either false = inr refl
-
 -- no step begins and ends at a standstill
 moving : (stops : List Bool) (start n i v0 v1 : ℕ) → NoneClose stops start n → i < n → (i ≡ 0 → v0 ≡ start) → (1 ≤ i → MatchBool (get_or stops i false) (v0 ≡ 0) (1 ≤ v0)) → MatchBool (get_or stops (i + 1) false) (v1 ≡ 0) (1 ≤ v1) → 1 ≤ v0 + v1
-moving stops start n i v0 v1 none l first entry exit = elim (either (get_or stops (i + 1) false)) [
+moving stops start n i v0 v1 none l first entry exit = elim (cases_Bool (get_or stops (i + 1) false)) [
   | inr passes ↦ (let fast : 1 ≤ v1 = subst (λ (b : Bool). MatchBool b (v1 ≡ 0) (1 ≤ v1)) passes exit in omega (arith, fast))
   | inl stops_next ↦ elim (cases_eq i 0) [
     | inl zero_is ↦ elim (cases_eq start 0) [
       | inl stands ↦ absurd (none i l (stops_next, inr (zero_is, stands)))
       | inr rolls ↦ (let same : v0 ≡ start = first zero_is in omega (arith, same, rolls))
     ]
-    | inr after ↦ elim (either (get_or stops i false)) [
+    | inr after ↦ elim (cases_Bool (get_or stops i false)) [
       | inr passes ↦ (let fast : 1 ≤ v0 = subst (λ (b : Bool). MatchBool b (v0 ≡ 0) (1 ≤ v0)) passes (entry (omega (arith, after))) in omega (arith, fast))
       | inl stops_here ↦ absurd (none i l (stops_next, inl stops_here))
     ]

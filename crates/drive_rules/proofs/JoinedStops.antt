@@ -16,10 +16,6 @@ never_past calls j h =
     let call : call_at calls j ≡ no_call = get_or_past calls j no_call h in
     rw (last, call) refl
 
-not_both : (b : Bool) → b ≡ true → b ≡ false → ⊥
-not_both true h k = absurd (true≢false k)
-not_both false h k = absurd (true≢false (sym h))
-
 -- calls at one place are one call
 pub one_call : (calls : List Call) → CallsRise calls → (i j : ℕ) → i < length calls → j < length calls → (call_at calls i).place ≡ (call_at calls j).place → i ≡ j
 one_call calls h i j l m e = elim (cases_lt i j) [
@@ -34,7 +30,7 @@ one_call calls h i j l m e = elim (cases_lt i j) [
 pub stop_call : (calls : List Call) (places : List ℕ) (k j : ℕ) → IsCallAt calls places k j → is_stop_call calls j ≡ true → (j < length calls) × (1 ≤ k) × ((call_at calls j).place ≡ get_or places k 0)
 stop_call calls places k j at stop = elim (cases_lt j (length calls)) [
   | inl b ↦ (b, (at.call b).0, (at.call b).1)
-  | inr past ↦ absurd (not_both (is_stop_call calls j) stop (never_past calls j past))
+  | inr past ↦ absurd (true≢false (sym stop ∙ never_past calls j past))
 ]
 
 -- the call at the place of a stop is the one that stands at its point

@@ -1,9 +1,9 @@
 -- The timing points of the calls, as they are taken one after another.
-use Rattle.std.proofs.Common.{ℕ, ◌≡◌, ◌<◌, ◌≤◌, ◌+◌, ◌-◌, ◌∙◌, List, [], ◌∷◌, ◌++◌, Option, Some, None, length, get_or, take, drop, subst, sym, refl, ap, arith, inl, inr, length-append, length-drop, Contains, Bool, true, false, ◌⊎◌}
+use Rattle.std.proofs.Common.{ℕ, ◌≡◌, ◌<◌, ◌≤◌, ◌+◌, ◌-◌, ◌∙◌, List, [], ◌∷◌, ◌++◌, Option, Some, None, length, get_or, take, drop, subst, sym, ap, arith, inl, inr, length-append, length-drop, Contains, true}
 use Rattle.std.specs.Prelude.{count_by, IfSome, is_some}
 use Rattle.std.proofs.Math.ListN.{get_or-append}
 use Rattle.std.proofs.Math.Seq.{get_or-append_seam}
-use Rattle.std.proofs.lemmas.Bool.{cases_lt, cases_eq}
+use Rattle.std.proofs.lemmas.Bool.{cases_Bool, cases_lt, cases_eq}
 use Rattle.std.proofs.lemmas.List.{get_or_default}
 use Rattle.std.proofs.lemmas.List.Sums.{count_by_more_no, count_by_more_yes}
 use Rattle.std.proofs.lemmas.Grind.{get_or_after_one}
@@ -27,6 +27,7 @@ at_place places k place h before l at (m, there, e) =
       | inr g ↦ omega (arith, same, at, places_not_above places h k m g there)
     ]
 
+-- where call i has a latest time, a timing point stands at its place
 abbrev pub IsTimed : List Call → List ℕ → List Timing → ℕ → Type 0
 IsTimed calls places ts i = IfSome (call_at calls i).latest (λ _. (h : ℕ) × (h < length ts) × (get_or places (get_or ts h no_timing).point 0 ≡ (call_at calls i).place))
 
@@ -44,12 +45,8 @@ some_more : (o : Option ℕ) (P Q : Type 0) → (P → Q) → IfSome o (λ _. P)
 some_more None P Q f h = h
 some_more (Some s) P Q f h = f h
 
-either : (b : Bool) → (b ≡ true) ⊎ (b ≡ false)
-either true = inl refl
-either false = inr refl
-
 one_more : (calls : List Call) (i : ℕ) → i < length calls → count_by (λ c. is_some c.latest) (take i calls) ≤ count_by (λ c. is_some c.latest) (take (i + 1) calls)
-one_more calls i l = elim (either (is_some (call_at calls i).latest)) [
+one_more calls i l = elim (cases_Bool (is_some (call_at calls i).latest)) [
   | inl s ↦ omega (arith, count_by_more_yes (λ c. is_some c.latest) calls i no_call l s)
   | inr s ↦ omega (arith, count_by_more_no (λ c. is_some c.latest) calls i no_call l s)
 ]

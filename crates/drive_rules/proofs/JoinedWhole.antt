@@ -12,6 +12,7 @@ use Rattle.drive_rules.specs.Joined.{IsJoined, IsSetup, AreTimings, marks_of, la
 use Rattle.drive_rules.specs.JoinedParts.{IsLayout, IsCourse, AreTimes}
 use Rattle.drive_rules.proofs.JoinedGrid.{first_is}
 
+-- the rules of a start speed, a top speed, two tables, a layout, a course and times
 abbrev pub rules_from : ℕ → ℕ → List ℕ → List ℕ → Layout → Course → Times → Rules
 rules_from start top traction brake l c t = record {
   start = start;
@@ -26,6 +27,7 @@ rules_from start top traction brake l c t = record {
   timings = t.timings.items;
 }
 
+-- they are joined where their parts are
 pub joined_from : (line : Line) (train : Train) (service : Service) (setup : Setup) (top : ℕ) (traction brake : List ℕ) (l : Layout) (c : Course) (t : Times) →
     IsSetup service setup → top + 1 ≡ length train.traction → traction ≡ train.traction → brake ≡ train.brake →
     IsLayout line service setup l → IsCourse line train setup l.places.items c → AreTimes service.calls setup.clock l.places.items l.visits.items t →

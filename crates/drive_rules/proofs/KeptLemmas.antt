@@ -1,20 +1,20 @@
 -- No rule is broken exactly where the speeds are a drive on time.
 use Rattle.std.proofs.Common.{ℕ, zero, suc, ◌≡◌, ◌<◌, ◌≤◌, ◌+◌, ◌^◌, ◌↔◌, Option, None, Some, List, length, get_or, refl, sym, subst, inl, inr, arith}
-use Rattle.std.specs.Prelude.{ℤ, pos, ◌≤ℤ◌, slice_index, Result, Ok, Err, IfOk, IfErr, IsTrue, is_ok}
+use Rattle.std.specs.Prelude.{ℤ, pos, ◌<ℤ◌, ◌≤ℤ◌, slice_index, Result, Ok, Err, IfOk, IfErr, IsTrue, is_ok}
 use Rattle.std.specs.Int.RustNames.{unsigned_abs}
 use Rattle.std.proofs.lemmas.Int.{ints}
 use Rattle.std.proofs.lemmas.Bool.{cases_eq}
 use Rattle.std.proofs.lemmas.Bool.Decides.{nat_tests}
 use Rattle.std.proofs.lemmas.List.{get_or_default}
-use Rattle.rail_specs.specs.Rules.{Rules, IsDrive, IsStepKept, IsPassed, step_at, traction_work}
+use Rattle.rail_specs.specs.Rules.{Rules, IsDrive, IsStepKept, IsPassed, no_timing, step_at, timing_at, traction_work}
 use Rattle.rail_specs.specs.Step.{work}
-use Rattle.rail_specs.specs.Times.{IsOnTimeUp, arrival_up}
-use Rattle.rail_specs.specs.Rules.{no_timing}
+use Rattle.rail_specs.specs.Times.{IsFirstLate, IsOnTimeUp, arrival_up}
 use Rattle.drive_rules.specs.Shaped.{IsShaped}
 use Rattle.rail_specs.specs.First.{first_below}
 use Rattle.drive_rules.specs.Verdict.{point_fault, force_rule, step_rule, step_fault, timing_fault, verdict, Moves, IsKept, Judges}
-use Rattle.drive_rules.proofs.VerdictLemmas.{option_or-none}
+use Rattle.drive_rules.proofs.VerdictLemmas.{first_below-found, option_or-none}
 use Rattle.drive_rules.specs.declared.judge.Rule.{Rule}
+use Rattle.drive_rules.specs.declared.judge.Rule.TheVariants.{Late}
 use Rattle.drive_rules.specs.declared.judge.Judged.{Judged}
 use Rattle.drive_rules.specs.declared.judge.Judged.TheVariants.{Kept, Broken}
 
@@ -31,11 +31,12 @@ pub none-first_below : {X : Type 0} (f : ℕ → Option X) (n : ℕ) → ((i : �
 none-first_below f zero h = refl
 none-first_below f (suc n) h = rw (none-first_below f n (λ i l. h i (omega arith))) (h n (omega arith))
 
--- a point's rule
+-- speed v keeps the rule of point k
 pub record PointKept (r : Rules) (k v : ℕ) : Type 0 where
   pub start : k ≡ 0 → v ≡ r.start
   pub later : 1 ≤ k → IsPassed r k v
 
+-- the rules of points and steps, from no fault and to none
 pub point_kept : (r : Rules) (speeds : List ℕ) (k : ℕ) → point_fault r speeds k ≡ None → PointKept r k (slice_index speeds k)
 point_kept r speeds k h = grind (arith, nat_tests)
 
@@ -65,7 +66,7 @@ step_kept r speeds i h = grind (arith, nat_tests, ints)
 pub kept_step : (r : Rules) (speeds : List ℕ) (i : ℕ) → IsStepKept r i (slice_index speeds i) (slice_index speeds (i + 1)) → step_fault r speeds i ≡ None
 kept_step r speeds i h = grind (arith, nat_tests, ints)
 
--- a timing point
+-- a timing point without a fault is reached in time
 timing_kept : (r : Rules) (speeds : List ℕ) (j : ℕ) → timing_fault r speeds j ≡ None → pos (arrival_up r speeds (get_or r.timings j no_timing).point) ≤ℤ (get_or r.timings j no_timing).latest
 timing_kept r speeds j h = grind (arith, ints)
 
@@ -74,8 +75,24 @@ timely r speeds h j d l =
     let e = first_below-none (timing_fault r speeds) (length r.timings) h j l in
     rw (get_or_default r.timings j d no_timing l) (timing_kept r speeds j e)
 
+timing_met : (r : Rules) (speeds : List ℕ) (j : ℕ) → pos (arrival_up r speeds (timing_at r j).point) ≤ℤ (timing_at r j).latest → timing_fault r speeds j ≡ None
+timing_met r speeds j h = grind (arith, ints)
+
 pub kept_timing : (r : Rules) (speeds : List ℕ) (j : ℕ) → j < length r.timings → IsOnTimeUp r speeds → timing_fault r speeds j ≡ None
-kept_timing r speeds j l t = let h = t j no_timing l in grind (arith, ints)
+kept_timing r speeds j l t = timing_met r speeds j (t j no_timing l)
+
+-- no timing point of speeds on time is reached too late
+pub none_late : (r : Rules) (speeds : List ℕ) → IsOnTimeUp r speeds → first_below (timing_fault r speeds) (length r.timings) ≡ None
+none_late r speeds t = none-first_below (timing_fault r speeds) (length r.timings) (λ j l. kept_timing r speeds j l t)
+
+timing_missed : (r : Rules) (speeds : List ℕ) (j : ℕ) → (timing_at r j).latest <ℤ pos (arrival_up r speeds (timing_at r j).point) → timing_fault r speeds j ≡ Some (Late, (timing_at r j).point)
+timing_missed r speeds j h = grind (arith, ints)
+
+-- the fault of the first timing point that is reached too late is the first of all
+pub some_late : (r : Rules) (speeds : List ℕ) (j : ℕ) → IsFirstLate r speeds j → first_below (timing_fault r speeds) (length r.timings) ≡ Some (Late, (timing_at r j).point)
+some_late r speeds j late =
+    first_below-found (timing_fault r speeds) j (length r.timings) (Late, (timing_at r j).point)
+    (none-first_below (timing_fault r speeds) j (λ h l. timing_met r speeds h (late.before h l))) (timing_missed r speeds j late.late) late.there
 
 -- nothing is broken, part by part
 pub record NoneBroken (r : Rules) (speeds : List ℕ) : Type 0 where
@@ -112,13 +129,14 @@ none_from_drive r speeds d t = verdict-none r speeds record {
     later = λ p. d.points k p l;
   });
   steps = none-first_below (step_fault r speeds) (length r.steps) (λ i l. kept_step r speeds i (d.steps i l));
-  timings = none-first_below (timing_fault r speeds) (length r.timings) (λ j l. kept_timing r speeds j l t);
+  timings = none_late r speeds t;
 }
 
 pub kept_exactly : (r : Rules) (speeds : List ℕ) (cost : ℤ) (j : Judged) → Judges j (verdict r speeds) cost → IsKept j ↔ (IsDrive r speeds × IsOnTimeUp r speeds)
 kept_exactly r speeds cost (Kept total) h = (λ _. drive_from_none r speeds h.0, λ _. tt)
 kept_exactly r speeds cost (Broken rule place) h = (λ b. absurd b, λ d. let e = none_from_drive r speeds d.0 d.1 in cc)
 
+-- where the rules of all points are kept, no step begins and ends at a standstill
 pub moves_from_points : (r : Rules) (speeds : List ℕ) → IsShaped r → length speeds ≡ length r.steps + 1 → first_below (point_fault r speeds) (length speeds) ≡ None → Moves r speeds
 moves_from_points r speeds s c h i l =
     let points = first_below-none (point_fault r speeds) (length speeds) h in

@@ -27,7 +27,7 @@ slice_get-drop (suc k) (x ∷ xs) = slice_get-drop k xs
 pub taken : (ls left rest : List (List ℕ)) (k : ℕ) → left ≡ drop k ls → rest ≡ drop 1 left → rest ≡ drop (suc k) ls
 taken ls left rest k e f = f ∙ ap (λ (l : List (List ℕ)). drop 1 l) e ∙ drop-next k ls
 
--- the line that comes next, after k lines
+-- the numbers of the line that comes next, after k lines
 abbrev pub next_numbers : List (List ℕ) → ℕ → List ℕ → ℕ → Option (List ℤ)
 next_numbers ls k word count = option_and_then (numbers_after word count) (slice_get ls k)
 

@@ -26,6 +26,7 @@ pub record IsRoute (r : Route) : Type 0 where
   pub some : 2 ≤ length r.steps
   pub few : length r.steps ≤ 4000
 
+-- what stands past the last step
 abbrev a_step : RouteStep
 a_step = record { metres = 0; gradient = pos 0; limit = 0 }
 
@@ -88,6 +89,7 @@ low_limit inertia c [] i h = omega arith
 low_limit inertia c (s ∷ ss) zero h = h.0.limit.1
 low_limit inertia c (s ∷ ss) (suc i) h = low_limit inertia c ss i h.1
 
+-- the lengths of a route's steps
 abbrev metres_of : Route → List ℕ
 metres_of r = map (λ s. s.metres) r.steps
 
@@ -116,6 +118,7 @@ route_moves r h i v0 v1 l entry exit = elim (cases_lt (i + 1) (length r.steps)) 
   | inr last ↦ omega (arith, passed_before r i v0 l (entry (omega (arith, h.some))))
 ]
 
+-- a timing point is one of n points after the first, with a latest time in range
 abbrev IsLater : ℕ → Timing → Type 0
 IsLater n t = (1 ≤ t.point) × (t.point ≤ n) × (unsigned_abs t.latest ≤ 172800000)
 
@@ -125,6 +128,7 @@ route_timings r h =
     let last : Timing = record { point = length r.steps; latest = pos (1000 * r.latest) } in
     All-cons (IsLater (length (map (step_numbers r.train) r.steps))) last [] (omega (arith, h.some), omega (arith, steps), omega (arith, h.latest)) (All-nil (IsLater (length (map (step_numbers r.train) r.steps))))
 
+-- so each clause of `IsShaped` holds
 pub shaped : (r : Route) → IsRoute r → IsShaped (rules_of_route r)
 shaped r h =
     let n : ℕ = length r.steps in

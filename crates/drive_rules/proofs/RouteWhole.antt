@@ -1,7 +1,7 @@
 -- The rules of a whole text, from those of its parts.
-use Rattle.std.proofs.Common.{ℕ, ◌≡◌, ◌≤◌, ◌+◌, ◌∙◌, Bool, List, [], ◌∷◌, ◌++◌, length, cond, drop, take, map, count_by, Option, Some, None, Result, Ok, Err, refl, ap, sym, arith, subst}
-use Rattle.std.proofs.lemmas.List.{append-nil, length-map, take-append-drop}
-use Rattle.std.proofs.lemmas.List.Sums.{sum_by-append}
+use Rattle.std.proofs.Common.{ℕ, ◌≡◌, ◌≤◌, ◌+◌, ◌∙◌, Bool, List, [], ◌∷◌, ◌++◌, length, cond, drop, map, count_by, Option, Some, None, Result, Ok, Err, refl, ap, sym, arith, subst}
+use Rattle.std.proofs.lemmas.List.{append-nil, length-map}
+use Rattle.std.proofs.lemmas.List.Sums.{sum_by-take-drop}
 use Rattle.rail_specs.specs.declared.RouteFault.{RouteFault}
 use Rattle.rail_specs.specs.declared.RouteFault.TheVariants.{Form, Range, TooManySteps, NoMemory}
 use Rattle.std.specs.Option.{option_or}
@@ -29,6 +29,7 @@ first_in-append (x ∷ xs) ys = ap (λ (o : Option _). option_or x o) (first_in-
 abbrev pub entries_fault : List (List ℕ) → Option RouteFault
 entries_fault ls = first_in (entry_faults (size (train_line ls) 1) (size (train_line ls) 4) 7 (drop 6 ls))
 
+-- the rules that lines give, or their refusal
 abbrev pub rules_on : List (List ℕ) → Result Rules RouteFault
 rules_on ls = rules_of_read (unless (first_in (line_faults ls)) (route_in ls))
 
@@ -95,6 +96,7 @@ rules_same ls lists h =
     let places : lists.places.items ≡ 0 ∷ ends_from 0 (map (λ s. s.metres) r.steps) = sym (h.places ∙ append-nil lists.places.items) in
     rw (rows, limits, places, length-map r.steps (step_numbers r.train)) refl
 
+-- the heading and the steps that were read make the rules of these lines
 pub record Makes (ls : List (List ℕ)) (h : Heading) (lists : StepLists) : Type 0 where
   pub few : length lists.rows.items ≤ 4000
   pub shaped : IsShaped (rules_with h lists)
@@ -116,9 +118,7 @@ makes ls h left lists b a read =
     }
 
 count_by-drop : (p : List ℕ → Bool) (n : ℕ) (xs : List (List ℕ)) → count_by p (drop n xs) ≤ count_by p xs
-count_by-drop p n xs =
-    let parts : count_by p (take n xs) + count_by p (drop n xs) ≡ count_by p xs = sym (sum_by-append (λ x. cond (p x) 1 0) (take n xs) (drop n xs)) ∙ ap (λ (l : List (List ℕ)). count_by p l) (take-append-drop n xs) in
-    omega arith
+count_by-drop p n xs = omega (arith, sum_by-take-drop (λ x. cond (p x) 1 0) xs n)
 
 -- the steps that were counted are among the lines
 pub count_behind : (p : List ℕ → Bool) (all ls left : List (List ℕ)) (n old new : ℕ) → ls ≡ all → left ≡ drop n ls → new ≤ old + count_by p left → new ≤ old + count_by p all

@@ -1,10 +1,9 @@
 -- How a search goes on.
 use Rattle.std.proofs.Common.{ℕ, zero, suc, ◌≡◌, ◌<◌, ◌+◌, Option, None, Some, refl, subst, inl, inr, arith, add-one}
 use Rattle.std.proofs.lemmas.Bool.{cases_eq}
-use Rattle.std.specs.Prelude.{ℤ, ◌+ℤ◌}
+use Rattle.std.specs.Prelude.{ℤ, ◌+ℤ◌, List, slice_index}
 use Rattle.rail_specs.specs.Times.{sum_below}
 use Rattle.rail_specs.specs.Cost.{int_sum_below}
-use Rattle.std.specs.Prelude.{List, slice_index}
 use Rattle.rail_specs.specs.Rules.{Rules}
 use Rattle.drive_rules.specs.declared.judge.Rule.{Rule}
 use Rattle.std.specs.Option.{option_or}

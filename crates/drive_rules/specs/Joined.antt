@@ -29,10 +29,11 @@ no_stretch = record { from = 0; to = 0; limit = 0 }
 abbrev pub stretch_at : List Stretch → ℕ → Stretch
 stretch_at stretches k = slice_index_or stretches k no_stretch
 
--- the places of the first and of the last call
+-- the place of the first call
 abbrev pub first_place : List Call → ℕ
 first_place calls = (call_at calls 0).place
 
+-- the place of the last call
 abbrev pub last_place : List Call → ℕ
 last_place calls = (last_call calls).place
 

@@ -1,12 +1,11 @@
 -- The first rule that a list of speeds breaks.
-use Rattle.std.specs.Prelude.{ℕ, ◌+◌, ◌≡◌, ◌<◌, ◌≤◌, ℤ, pos, neg_ℤ, List, length, slice_index, slice_index_or, Option, Some, None, ◌==◌, nat_lt, if◌then◌else◌, ◌||◌}
+use Rattle.std.specs.Prelude.{ℕ, ◌+◌, ◌≡◌, ◌<◌, ◌≤◌, ℤ, pos, neg_ℤ, List, length, slice_index, Option, Some, None, ◌==◌, nat_lt, if◌then◌else◌, ◌||◌}
 use Rattle.std.specs.Int.RustNames.{int_lt, unsigned_abs}
 use Rattle.std.specs.Option.{option_map, option_or}
-use Rattle.rail_specs.specs.Rules.{Rules, is_stop, step_at, traction_work, brake_work}
+use Rattle.rail_specs.specs.Rules.{Rules, is_stop, step_at, timing_at, traction_work, brake_work}
 use Rattle.rail_specs.specs.Times.{arrival_up}
 use Rattle.rail_specs.specs.Step.{work}
 use Rattle.rail_specs.specs.First.{first_below}
-use Rattle.rail_specs.specs.Rules.{no_timing}
 use Rattle.drive_rules.specs.declared.judge.Rule.{Rule}
 use Rattle.drive_rules.specs.declared.judge.Rule.TheVariants.{Length, Start, Stop, Standing, Limit, Top, Traction, Brake, Late}
 use Rattle.drive_rules.specs.declared.judge.Judged.{Judged}
@@ -43,7 +42,7 @@ step_fault r speeds i = option_map (λ rule. (rule, i)) (step_rule r i (slice_in
 -- a list of speeds reaches timing point j too late: the rule, and the point
 abbrev pub timing_fault : Rules → List ℕ → ℕ → Option (Rule × ℕ)
 timing_fault r speeds j =
-    let t = slice_index_or r.timings j no_timing in
+    let t = timing_at r j in
     if int_lt t.latest (pos (arrival_up r speeds t.point)) then Some (Late, t.point) else None
 
 -- the first rule that the speeds break, and where

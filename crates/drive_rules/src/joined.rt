@@ -8,8 +8,7 @@ pub(crate) mod marks;
 pub(crate) mod points;
 pub(crate) mod rows;
 pub(crate) mod sections;
-pub(crate) mod times;
-pub(crate) mod timings;
-
 #[cfg(test)]
 mod tests;
+pub(crate) mod times;
+pub(crate) mod timings;

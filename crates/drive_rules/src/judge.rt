@@ -75,7 +75,7 @@ impl Rules {
         requires { length speeds.now ≡ length self.now.steps + 1 }
         ensures { result ≡ first_below (point_fault self.now speeds.now) (length speeds.now) }
     {
-        let _ = self.steps();
+        self.known();
         for k in 0..speeds.len() {
             if let Some(rule) = self.point_rule(k, speeds[k]) {
                 return Some((rule, k as u32));
@@ -126,23 +126,14 @@ impl Rules {
     }
 
     /// The first timing point that the speeds reach too late.
-    #[tactic(auto, using(crate::proofs::VerdictLemmas::firsts))]
     fn broken_timing(&self, speeds: &[u16]) -> Option<(Rule, u32)>
         requires count { length speeds.now ≡ length self.now.steps + 1 }
         requires moving { Moves self.now speeds.now }
         ensures { result ≡ first_below (timing_fault self.now speeds.now) (length self.now.timings) }
     {
-        let timings = self.timings();
-        let mut point = 0;
-        let mut time = 0;
-        for t in timings {
-            time = self.time_at(speeds, point, time, t.point as usize);
-            point = t.point as usize;
-            if time as i64 > t.latest {
-                return Some((Rule::Late, t.point));
-            }
-        }
-        None
+        let late = self.late_at(speeds)?;
+        let point = self.timings()[late.timing as usize].point;
+        Some((Rule::Late, point))
     }
 
     /// The first broken rule, or the cost.

@@ -1,7 +1,8 @@
-//! Where a drive is late first.
+//! Where speeds are late first.
 ghost use Rattle.std.specs.Prelude.{◌≡◌, ℕ, ◌+◌, ◌-◌, ◌*◌, ◌<◌, ◌≤◌, pos, IfSome, IfNone, List, length, slice_index};
 ghost use Rattle.rail_specs.specs.Rules.{IsDrive, timing_at};
 ghost use Rattle.rail_specs.specs.Times.{arrival_up, IsOnTimeUp, IsFirstLate};
+ghost use Rattle.drive_rules.specs.Verdict.{Moves};
 
 use crate::rules::Rules;
 use step_time_bounds::times_fall;
@@ -16,19 +17,15 @@ pub struct LateAt {
 }
 
 impl Rules {
-    /// The first timing point that a drive reaches too late, and `None` exactly where the drive is on time.
-    ///
-    /// The speeds are in cm/s, one for each point. It takes no memory.
-    pub fn first_late(&self, speeds: &[u16]) -> Option<LateAt>
-        requires { IsDrive self.now speeds.now }
+    /// The first timing point that speeds reach too late, whether or not they are a drive.
+    pub(crate) fn late_at(&self, speeds: &[u16]) -> Option<LateAt>
+        requires count { length speeds.now ≡ length self.now.steps + 1 }
+        requires moving { Moves self.now speeds.now }
         ensures on_time { IfNone result (IsOnTimeUp self.now speeds.now) }
         ensures late { IfSome result (λ at. IsFirstLate self.now speeds.now at.timing) }
-        // No drive that is nowhere faster is on time either.
-        ensures slower { IfSome result (λ at. (d : List ℕ) → IsDrive self.now d → ((k : ℕ) → slice_index d k ≤ slice_index speeds.now k) → IsOnTimeUp self.now d → ⊥) }
         ensures arrival { IfSome result (λ at. at.arrival ≡ arrival_up self.now speeds.now (timing_at self.now at.timing).point) }
     {
         self.known();
-        times_fall();
         let timings = self.timings();
         let mut point = 0;
         let mut time = 0;
@@ -44,5 +41,21 @@ impl Rules {
             }
         }
         None
+    }
+
+    /// The first timing point that a drive reaches too late, and `None` exactly where the drive is on time.
+    ///
+    /// The speeds are in cm/s, one for each point. It takes no memory.
+    pub fn first_late(&self, speeds: &[u16]) -> Option<LateAt>
+        requires { IsDrive self.now speeds.now }
+        ensures on_time { IfNone result (IsOnTimeUp self.now speeds.now) }
+        ensures late { IfSome result (λ at. IsFirstLate self.now speeds.now at.timing) }
+        // No drive that is nowhere faster is on time either.
+        ensures slower { IfSome result (λ at. (d : List ℕ) → IsDrive self.now d → ((k : ℕ) → slice_index d k ≤ slice_index speeds.now k) → IsOnTimeUp self.now d → ⊥) }
+        ensures arrival { IfSome result (λ at. at.arrival ≡ arrival_up self.now speeds.now (timing_at self.now at.timing).point) }
+    {
+        self.known();
+        times_fall();
+        self.late_at(speeds)
     }
 }

@@ -190,7 +190,7 @@ impl Rules {
         ensures value { result ≡ standing_before self.now k }
         ensures small { result ≤ 7200000 * k }
     {
-        let _ = self.steps();
+        self.known();
         let mut sum = 0;
         for i in 0..k {
             sum += self.dwell(i) as u64;

@@ -25,7 +25,7 @@ fn step_numbers(train: &Train, metres: u32, gradient: i32) -> StepNumbers
     train.numbers().step(metres as u16, gradient as i16)
 }
 
-/// One row more.
+/// Appends a row. Want of memory for it becomes an `AllocError`, which a `RulesFault` is made from.
 fn append(rows: &mut Vec<StepRow>, row: StepRow) -> Result<(), AllocError>
     ensures { OnOk result (rows.new.items ≡ rows.old.items ++ row ∷ []) }
 {

@@ -9,9 +9,9 @@ pub(crate) struct Heading {
     pub train: TrainNumbers,
     /// The top speed, cm/s.
     pub top: u16,
-    /// The force at every speed, N.
+    /// The traction force at every speed, N.
     pub traction: u32,
-    /// The force at every speed, N.
+    /// The brake force at every speed, N.
     pub brake: u32,
     /// The latest time at the last point, s.
     pub latest: u32,

@@ -10,6 +10,7 @@ use Rattle.rail_specs.specs.Table.{IsForceTable}
 use Rattle.drive_rules.specs.Shaped.{IsShaped}
 use Rattle.drive_rules.proofs.tests.two_steps.Goals as goal
 
+-- the rules of the example: the same step twice
 abbrev pair_of : StepNumbers → List ℕ → List ℕ → ℤ → Rules
 pair_of n t b latest = record {
   start = 0;
@@ -24,6 +25,7 @@ pair_of n t b latest = record {
   timings = (record { point = 2; latest = latest }) ∷ [];
 }
 
+-- its one timing point
 abbrev the_timing : ℤ → Timing
 the_timing latest = record { point = 2; latest = latest }
 

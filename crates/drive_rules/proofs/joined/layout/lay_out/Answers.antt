@@ -1,8 +1,7 @@
-use Rattle.std.proofs.Common.{arith, ◌≤◌, length, refl}
+use Rattle.std.proofs.Common.{arith, ◌≤◌, length, refl, ◌-◌}
 use Rattle.drive_rules.proofs.JoinedGrid.{two_places}
 use Rattle.drive_rules.proofs.JoinedStops.{all_apart}
 use Rattle.drive_rules.proofs.joined.layout.lay_out.Goals as goal
-use Rattle.std.proofs.Common.{◌-◌}
 use Rattle.drive_rules.specs.JoinedParts.{NoneClose, AreStops}
 
 pub calls_of_points-requires-clause-some : goal.calls_of_points-requires-clause-some

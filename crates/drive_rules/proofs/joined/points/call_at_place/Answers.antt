@@ -1,4 +1,4 @@
-use Rattle.std.proofs.Common.{ℕ, ◌≡◌, ◌<◌, length, arith, inl, inr, ap}
+use Rattle.std.proofs.Common.{ℕ, ◌≡◌, ◌<◌, length, arith, inl, inr, ap, List}
 use Rattle.std.proofs.lemmas.Bool.{cases_lt, cases_eq}
 use Rattle.line_file.specs.declared.calls.Call.{Call}
 use Rattle.line_file.specs.Shape.{call_at}
@@ -6,7 +6,6 @@ use Rattle.drive_rules.specs.JoinedParts.{CallsRise}
 use Rattle.drive_rules.proofs.JoinedRising.{calls_rise}
 use Rattle.drive_rules.proofs.joined.points.call_at_place.Goals as goal
 use Rattle.drive_rules.proofs.joined.points.call_at_place.Goals.{else-next-calls-via-then-next-calls+else-calls-next, else-next-calls-via-else-next-calls}
-use Rattle.std.proofs.Common.{List}
 
 none_at : (calls : List Call) (next place : ℕ) → CallsRise calls → ((j : ℕ) → j < next → (call_at calls j).place < place) → (next < length calls → place < (call_at calls next).place) →
     (i : ℕ) → i < length calls → (call_at calls i).place ≡ place → ⊥

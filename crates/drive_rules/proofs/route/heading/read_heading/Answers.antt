@@ -5,6 +5,7 @@ use Rattle.rail_specs.specs.Route.{is_one, is_train, train_numbers}
 use Rattle.drive_rules.proofs.RouteHeading.{unless-ok, taken, line_good, line_bad}
 use Rattle.drive_rules.proofs.route.heading.read_heading.Goals as goal
 
+-- the first number of a line
 abbrev one : Option (List ℤ) → ℕ
 one ns = size ns 0
 

@@ -1,7 +1,7 @@
 use Rattle.std.proofs.Common.{ℕ, ◌≡◌, ◌≤◌, ◌<◌, ◌*◌, length, pos, ◌≤ℤ◌}
 use Rattle.rail_specs.specs.Rules.{timing_at}
 use Rattle.rail_specs.specs.Times.{arrival_up}
-use Rattle.drive_rules.proofs.rules.Rules.first_late.Given as goal
+use Rattle.drive_rules.proofs.rules.Rules.late_at.Given as goal
 
 abbrev pub invariant-loop-j : goal.invariant-loop-j
 invariant-loop-j l = record {
