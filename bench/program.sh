@@ -6,7 +6,7 @@ advice=$top/crates/advice/out/advice
 
 # A build that fails leaves no program, so that none of an earlier build is measured. The status of `rt run` is the program's own.
 rm -f "$advice"
-(cd "$top/crates/advice" && rt run -- route data/g.route >"$work/build" 2>&1) || true
+(cd "$top/crates/advice" && rt run -- route data/downhill.route >"$work/build" 2>&1) || true
 if ! test -x "$advice"; then
     cat "$work/build" >&2
     exit 1

@@ -3,7 +3,7 @@
 
 ghost use Rattle.std.specs.Prelude.{◌≡◌, ◌<◌};
 
-use advice_run::{Words, run};
+use advice_run::{NO_MEMORY, Words, run};
 use edge_io::{FileShelf, OutSink};
 use std::alloc::{AllocError, Global};
 use std::io::ErrorKind;
@@ -13,9 +13,6 @@ use std::rt::{Env, Files};
 use std::sync::ledger::{Blank, Ledger};
 use std::{env, io};
 use step_energy::Steps;
-
-/// The status where `main` finds no memory.
-const NO_MEMORY: u8 = 8;
 
 /// The words of the command line after the program's name. Words that are no text are read as no words at all, which ask
 /// for nothing.

@@ -1,6 +1,6 @@
 //! The command `plan`.
 
-use crate::runs::{Ended, plain, run_words};
+use crate::runs::{Ended, plain, put_file, run_words};
 use std::alloc::{AllocError, Global};
 use std::test::Fail;
 
@@ -11,19 +11,6 @@ const TRAIN: &str =
 
 const SERVICE: &str = "place,name,dwell,latest\n0,A,,\n200,B,,50\n";
 
-/// Appends a file.
-fn put_file(
-    alloc: Global,
-    files: &mut Vec<(String, Vec<u8>)>,
-    name: &str,
-    text: &str,
-) -> Result<(), AllocError> {
-    let name = String::from_str(alloc, name)?;
-    let bytes = Vec::from_slice(alloc, text.as_bytes())?;
-    files.push((name, bytes))?;
-    Ok(())
-}
-
 /// What `plan` leaves over three files with these texts, with these further words.
 fn plan_ended<'a>(
     alloc: Global,
@@ -33,9 +20,9 @@ fn plan_ended<'a>(
     more: &[&'a str],
 ) -> Result<Ended, AllocError> {
     let mut setting = plain(alloc);
-    put_file(alloc, &mut setting.files, "l", line)?;
-    put_file(alloc, &mut setting.files, "t", train)?;
-    put_file(alloc, &mut setting.files, "s", service)?;
+    put_file(alloc, &mut setting.files, "l", line.as_bytes())?;
+    put_file(alloc, &mut setting.files, "t", train.as_bytes())?;
+    put_file(alloc, &mut setting.files, "s", service.as_bytes())?;
     let mut words: Vec<&'a str> = Vec::new(alloc);
     for word in ["plan", "l", "t", "s"] {
         words.push(word)?;
@@ -153,7 +140,7 @@ fn files_are_read_in_the_order_of_the_words(rt: HostRuntime) -> Result<(), Fail>
     assert_eq!(rt; absent.status, 6);
     assert_eq!(rt; absent.text.as_str(), "read fault line\n");
     let mut half = plain(alloc);
-    put_file(alloc, &mut half.files, "l", LINE)?;
+    put_file(alloc, &mut half.files, "l", LINE.as_bytes())?;
     let no_train = run_words(alloc, &["plan", "l", "t", "s"], half)?;
     assert_eq!(rt; no_train.text.as_str(), "read fault train\n");
     for words in [

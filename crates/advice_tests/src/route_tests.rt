@@ -1,10 +1,13 @@
 //! The command `route`.
 
-use crate::runs::{Ended, plain, run_words};
+use crate::runs::{Ended, plain, put_file, run_words};
 use std::alloc::{AllocError, Global};
 use std::test::Fail;
 
-/// A route of these lines between the heading and the end: the train's heading, its forces and the latest time come first.
+/// A level step of 100 m with a limit of 1,000 cm/s.
+const LEVEL: &str = "100 0 1000";
+
+/// The text of a route with this traction in N, this latest time in s, and these steps.
 fn route_of(
     alloc: Global,
     traction: u32,
@@ -23,23 +26,12 @@ fn route_of(
     Ok(text)
 }
 
-/// Files of one name.
-fn one_file(alloc: Global, name: &str, text: &[u8]) -> Result<Vec<(String, Vec<u8>)>, AllocError> {
-    let mut files = Vec::new(alloc);
-    let name = String::from_str(alloc, name)?;
-    let bytes = Vec::from_slice(alloc, text)?;
-    files.push((name, bytes))?;
-    Ok(files)
-}
-
 /// What `route` leaves over a file with these bytes.
 fn route_ended(alloc: Global, text: &[u8]) -> Result<Ended, AllocError> {
     let mut setting = plain(alloc);
-    setting.files = one_file(alloc, "a.route", text)?;
+    put_file(alloc, &mut setting.files, "a.route", text)?;
     run_words(alloc, &["route", "a.route"], setting)
 }
-
-const LEVEL: &str = "100 0 1000";
 
 #[test]
 fn routes_are_answered(rt: HostRuntime) -> Result<(), Fail> {
@@ -166,13 +158,13 @@ fn faults_are_told(rt: HostRuntime) -> Result<(), Fail> {
 
     let route = route_of(alloc, 51_000, 50, &[LEVEL, LEVEL])?;
     let mut failing = plain(alloc);
-    failing.files = one_file(alloc, "a.route", route.as_bytes())?;
+    put_file(alloc, &mut failing.files, "a.route", route.as_bytes())?;
     failing.failing_fetches.push(1)?;
     let failed = run_words(alloc, &["route", "a.route"], failing)?;
     assert_eq!(rt; failed.status, 6);
 
     let mut short = plain(alloc);
-    short.files = one_file(alloc, "a.route", route.as_bytes())?;
+    put_file(alloc, &mut short.files, "a.route", route.as_bytes())?;
     short.piece = 10;
     short.failing_puts.push(2)?;
     let broken = run_words(alloc, &["route", "a.route"], short)?;
@@ -180,7 +172,7 @@ fn faults_are_told(rt: HostRuntime) -> Result<(), Fail> {
     assert_eq!(rt; broken.text.as_str(), "advice 1\ng");
 
     let mut full = plain(alloc);
-    full.files = one_file(alloc, "a.route", route.as_bytes())?;
+    put_file(alloc, &mut full.files, "a.route", route.as_bytes())?;
     full.room = 12;
     let filled = run_words(alloc, &["route", "a.route"], full)?;
     assert_eq!(rt; filled.status, 7);
@@ -192,19 +184,18 @@ fn faults_are_told(rt: HostRuntime) -> Result<(), Fail> {
 fn options_stand_anywhere(rt: HostRuntime) -> Result<(), Fail> {
     let alloc = rt.alloc();
     let route = route_of(alloc, 51_000, 50, &[LEVEL, LEVEL])?;
-    let cases: [&[&str]; 5] = [
-        &["route", "a.route", "--tolerance", "1000"],
-        &["route", "--tolerance=1000", "a.route"],
-        &["route", "--tolerance", "0000001000", "--", "a.route"],
-        &["route", "--", "a.route"],
-        &["route", "a.route", "--tolerance=0"],
+    let cases: [(&[&str], u8); 5] = [
+        (&["route", "a.route", "--tolerance", "1000"], 0),
+        (&["route", "--tolerance=1000", "a.route"], 0),
+        (&["route", "--tolerance", "0000001000", "--", "a.route"], 0),
+        (&["route", "--", "a.route"], 1),
+        (&["route", "a.route", "--tolerance=0"], 1),
     ];
-    let statuses = [0, 0, 0, 1, 1];
-    for i in 0..5 {
+    for (words, status) in cases {
         let mut setting = plain(alloc);
-        setting.files = one_file(alloc, "a.route", route.as_bytes())?;
-        let got = run_words(alloc, cases[i], setting)?;
-        assert_eq!(rt; got.status, statuses[i], "{i}");
+        put_file(alloc, &mut setting.files, "a.route", route.as_bytes())?;
+        let got = run_words(alloc, words, setting)?;
+        assert_eq!(rt; got.status, status, "{}", words[1]);
     }
     Ok(())
 }

@@ -9,7 +9,7 @@ use std::marker::Brand;
 use std::sync::ledger::{Blank, Ledger};
 use step_energy::Steps;
 
-/// What a run left.
+/// What a run left: the status that it ended with, and what it wrote.
 #[derive(Debug, PartialEq, Eq, Drop)]
 pub struct Ended {
     pub status: u8,
@@ -40,6 +40,20 @@ pub fn plain(alloc: Global) -> Setting
     }
 }
 
+/// Appends a file.
+pub fn put_file(
+    alloc: Global,
+    files: &mut Vec<(String, Vec<u8>)>,
+    name: &str,
+    bytes: &[u8],
+) -> Result<(), AllocError> {
+    let name = String::from_str(alloc, name)?;
+    let bytes = Vec::from_slice(alloc, bytes)?;
+    files.push((name, bytes))?;
+    Ok(())
+}
+
+/// What a run with these words leaves, with a counter of its own.
 fn run_counted<L: Ledger>(
     alloc: Global,
     words: &[&str],
