@@ -2,7 +2,7 @@ pub mod Left
 pub mod Blank
 pub mod Reading
 pub mod Taking
-pub mod LineLemmas
-pub mod ServiceLemmas
+pub mod RowFileLemmas
+pub mod OneMoreItem
 pub mod LineShape
 pub mod ServiceShape

@@ -1,11 +1,11 @@
 -- What a line file says, or why a text is none.
-use Rattle.std.specs.Prelude.{◌==◌, ◌&&◌, ◌||◌, ◌+◌, ◌-◌, ◌*◌, ◌/◌, ◌++◌, ◌∷◌, Bool, ℕ, ℤ, pos, negsuc, List, [], Option, Some, None, Result, Ok, Err, if◌then◌else◌, length, nat_lt, not, codes, slice_index_or}
+use Rattle.std.specs.Prelude.{◌==◌, ◌&&◌, ◌||◌, ◌-◌, ◌*◌, ◌/◌, ◌++◌, Bool, ℕ, ℤ, pos, negsuc, List, [], Option, Some, None, Result, Ok, Err, if◌then◌else◌, length, nat_lt, not, codes, slice_index_or}
 use Rattle.std.specs.Int.RustNames.{int_le, int_lt, unsigned_abs}
 use Rattle.std.specs.List.{cons_option, filter_map}
-use Rattle.std.specs.Option.{option_or}
 use Rattle.std.specs.Str.{bytes_eq}
 use Rattle.rail_specs.specs.Numbers.{number_of, trimmed}
 use Rattle.line_file.specs.Rows.{Fields, field_of, has_fields, rows_of}
+use Rattle.line_file.specs.RowFile.{below_header, counted_fault, rows_in}
 use Rattle.line_file.specs.declared.sections.Section.{Section}
 use Rattle.line_file.specs.declared.line.Line.{Line}
 use Rattle.line_file.specs.declared.line.LineFault.{LineFault}
@@ -123,15 +123,7 @@ fault_of n line (Ok row) = if follows (by_kind row.kind line.limits line.gradien
 
 -- what is wrong with row n after the rows of a line
 abbrev pub row_fault : ℕ → Line → Fields → Option LineFault
-row_fault n line fields =
-    if not (length fields == 4) then Some (fault.BadRow n)
-    else if nat_lt 20000 n then Some fault.TooManyRows
-    else fault_of n line (row_of fields)
-
--- what is wrong with the first bad row of those that follow other rows
-unfoldable pub rows_fault : List Fields → List Fields → Option LineFault
-rows_fault before [] = None
-rows_fault before (r ∷ rows) = option_or (row_fault (length before + 1) (line_from before) r) (rows_fault (before ++ r ∷ []) rows)
+row_fault n line fields = counted_fault 20000 (fault.BadRow n) fault.TooManyRows n fields (fault_of n line (row_of fields))
 
 -- what is wrong with a line whose rows are right
 abbrev pub whole_fault : Line → Option LineFault
@@ -140,24 +132,10 @@ whole_fault line =
     else if (first_from line.limits == first_from line.gradients) && (last_to line.limits == last_to line.gradients) then None
     else Some fault.EndsDiffer
 
--- a line, or what is wrong with it
-abbrev pub unless : Option LineFault → Line → Result Line LineFault
-unless None line = Ok line
-unless (Some f) line = Err f
-
--- what the rows below the header say
-abbrev pub below_header : List Fields → Result Line LineFault
-below_header rows = unless (option_or (rows_fault [] rows) (whole_fault (line_from rows))) (line_from rows)
-
 -- the header of a line file
 abbrev pub is_line_header : Fields → Bool
 is_line_header fields = has_fields fields (codes "kind") (codes "from") (codes "to") (codes "value")
 
--- what the rows of a text say
-abbrev pub line_in : List Fields → Result Line LineFault
-line_in [] = Err fault.BadHeader
-line_in (header ∷ rows) = if is_line_header header then below_header rows else Err fault.BadHeader
-
 -- what a text says
 abbrev pub line_of : List ℕ → Result Line LineFault
-line_of text = line_in (rows_of text)
+line_of text = rows_in is_line_header fault.BadHeader (below_header line_from row_fault whole_fault) (rows_of text)

@@ -1,11 +1,11 @@
 -- What a service file says, or why a text is none.
-use Rattle.std.specs.Prelude.{◌==◌, ◌&&◌, ◌||◌, ◌+◌, ◌-◌, ◌++◌, ◌∷◌, Bool, true, ℕ, ℤ, pos, List, [], Option, Some, None, option_map, is_some, Result, Ok, Err, if◌then◌else◌, count_by, drop, length, nat_lt, not, codes, slice_index_or}
+use Rattle.std.specs.Prelude.{◌&&◌, ◌||◌, ◌-◌, ◌++◌, Bool, true, ℕ, ℤ, pos, List, [], Option, Some, None, option_map, is_some, Result, Ok, Err, if◌then◌else◌, count_by, drop, length, nat_lt, not, codes, slice_index_or}
 use Rattle.std.specs.Int.RustNames.{int_le, unsigned_abs}
 use Rattle.std.specs.List.{cons_option, filter_map}
-use Rattle.std.specs.Option.{option_or}
 use Rattle.std.specs.Result.{result_ok}
 use Rattle.rail_specs.specs.Numbers.{number_of, trimmed}
 use Rattle.line_file.specs.Rows.{Fields, field_of, has_fields, is_empty, rows_of}
+use Rattle.line_file.specs.RowFile.{below_header, counted_fault, rows_in}
 use Rattle.line_file.specs.declared.calls.Call.{Call}
 use Rattle.line_file.specs.declared.service.Service.{Service}
 use Rattle.line_file.specs.declared.service.ServiceFault.{ServiceFault}
@@ -83,15 +83,7 @@ fault_of n service (Ok call) = if rises service.calls call then None else Some (
 
 -- what is wrong with row n after the rows of a service
 abbrev pub row_fault : ℕ → Service → Fields → Option ServiceFault
-row_fault n service fields =
-    if not (length fields == 4) then Some (fault.BadRow n)
-    else if nat_lt 1000 n then Some fault.TooManyRows
-    else fault_of n service (call_of fields)
-
--- what is wrong with the first bad row of those that follow other rows
-unfoldable pub rows_fault : List Fields → List Fields → Option ServiceFault
-rows_fault before [] = None
-rows_fault before (r ∷ rows) = option_or (row_fault (length before + 1) (service_from before) r) (rows_fault (before ++ r ∷ []) rows)
+row_fault n service fields = counted_fault 1000 (fault.BadRow n) fault.TooManyRows n fields (fault_of n service (call_of fields))
 
 -- how many calls after the first have a latest time
 abbrev pub latest_count : List Call → ℕ
@@ -105,24 +97,10 @@ whole_fault service =
     else if nat_lt 64 (latest_count service.calls) then Some fault.TooManyLatest
     else None
 
--- a service, or what is wrong with it
-abbrev pub unless : Option ServiceFault → Service → Result Service ServiceFault
-unless None service = Ok service
-unless (Some f) service = Err f
-
--- what the rows below the header say
-abbrev pub below_header : List Fields → Result Service ServiceFault
-below_header rows = unless (option_or (rows_fault [] rows) (whole_fault (service_from rows))) (service_from rows)
-
 -- the header of a service file
 abbrev pub is_service_header : Fields → Bool
 is_service_header fields = has_fields fields (codes "place") (codes "name") (codes "dwell") (codes "latest")
 
--- what the rows of a text say
-abbrev pub service_in : List Fields → Result Service ServiceFault
-service_in [] = Err fault.BadHeader
-service_in (header ∷ rows) = if is_service_header header then below_header rows else Err fault.BadHeader
-
 -- what a text says
 abbrev pub service_of : List ℕ → Result Service ServiceFault
-service_of text = service_in (rows_of text)
+service_of text = rows_in is_service_header fault.BadHeader (below_header service_from row_fault whole_fault) (rows_of text)

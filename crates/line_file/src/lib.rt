@@ -7,6 +7,7 @@
 
 mod calls;
 mod line;
+mod row_file;
 mod rows;
 mod sections;
 mod service;

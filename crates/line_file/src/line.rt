@@ -1,11 +1,12 @@
 //! Line files.
 
-ghost use Rattle.std.specs.Prelude.{◌≡◌, ◌≢◌, ◌≤◌, ◌∷◌, ◌++◌, [], true, false, IfOk, IfErr, OnOk};
+ghost use Rattle.std.specs.Prelude.{◌≡◌, ◌≢◌, ◌∷◌, ◌++◌, [], true, false, IfOk, IfErr, OnOk};
 ghost use Rattle.csv.specs.Records.{fields_of};
-ghost use Rattle.line_file.specs.LineText.{below_header, follows, is_in_range, is_value, kept_value, kind_of, line_of, numbers_of, row_fault, row_from, row_of, whole_fault, with_row};
+ghost use Rattle.line_file.specs.LineText.{follows, is_in_range, is_value, kept_value, kind_of, line_of, numbers_of, row_from, row_of};
 ghost use Rattle.line_file.specs.Shape.{IsLine};
 
-use crate::rows::{Rows, field, has_fields};
+use crate::row_file::{RowFile, read_file};
+use crate::rows::{field, has_fields};
 use crate::sections::{Section, SectionList};
 use csv::ByteRecord;
 use rail_base::{read_number, trim_spaces};
@@ -184,13 +185,52 @@ fn add_section(sections: &mut SectionList, section: Section, n: u32) -> Result<(
     Ok(())
 }
 
-impl Line {
-    /// Adds row `n`, or says what is wrong with it.
-    fn add_row(&mut self, n: u32, row: &ByteRecord) -> Result<(), LineFault>
-        ensures few { OnOk result (n ≤ 20000) }
-        ensures ok { OnOk result ((row_fault n self.old (fields_of row.now) ≡ None) × (self.new ≡ with_row self.old (row_of (fields_of row.now)))) }
-        ensures fault { IfErr result (λ e. e ≢ LineFault.NoMemory → row_fault n self.old (fields_of row.now) ≡ Some e) }
-    {
+impl RowFile for Line {
+    ghost use Rattle.std.proofs.Common.{rules};
+    ghost use Rattle.line_file.specs.declared.line.LineFault.TheVariants.{BadHeader, NoMemory};
+    ghost use Rattle.line_file.specs.LineText.{is_line_header, line_from, row_fault, row_of, whole_fault, with_row};
+    ghost use Rattle.line_file.specs.OneMoreRow.{line_from-push};
+
+    type Fault = LineFault;
+
+    ghost no_memory = { NoMemory };
+
+    ghost bad_header = { BadHeader };
+
+    ghost is_header = { is_line_header };
+
+    ghost most_rows = { 20000 };
+
+    ghost from_rows = { line_from };
+
+    ghost with_row = { λ line fields. with_row line (row_of fields) };
+
+    ghost row_fault = { row_fault };
+
+    ghost whole_fault = { whole_fault };
+
+    ghost is_memory = { λ error fault is. is };
+
+    ghost counts = { Prim.search rules };
+
+    ghost adds = { line_from-push };
+
+    fn bad_header() -> LineFault {
+        LineFault::BadHeader
+    }
+
+    fn is_header(row: &ByteRecord) -> bool {
+        has_fields(row, b"kind", b"from", b"to", b"value")
+    }
+
+    fn without_rows(alloc: Global) -> Line {
+        Line {
+            limits: SectionList::new(alloc),
+            gradients: SectionList::new(alloc),
+        }
+    }
+
+    fn add_row(&mut self, n: u32, row: &ByteRecord) -> Result<(), LineFault> {
         if row.len() != 4 {
             return Err(LineFault::BadRow(n));
         }
@@ -208,10 +248,7 @@ impl Line {
         }
     }
 
-    /// What is wrong with the line as a whole.
-    fn whole_fault(&self) -> Option<LineFault>
-        ensures { result ≡ whole_fault self.now }
-    {
+    fn whole_fault(&self) -> Option<LineFault> {
         let (limits, gradients) = (self.limits.items(), self.gradients.items());
         if limits.is_empty() || gradients.is_empty() {
             return Some(LineFault::NoSections);
@@ -224,7 +261,9 @@ impl Line {
             Some(LineFault::EndsDiffer)
         }
     }
+}
 
+impl Line {
     /// The same line once more.
     pub fn copy(&self, alloc: Global) -> Result<Line, AllocError>
         ensures { IfOk result (λ line. line ≡ self.now) }
@@ -232,26 +271,6 @@ impl Line {
         let limits = self.limits.copy(alloc)?;
         let gradients = self.gradients.copy(alloc)?;
         Ok(Line { limits, gradients })
-    }
-}
-
-/// Reads the rows below the header.
-fn read_rows(alloc: Global, rows: &mut Rows<'_>, row: &mut ByteRecord) -> Result<Line, LineFault>
-    ensures answer { result ≢ Err LineFault.NoMemory → result ≡ below_header rows.old }
-    ensures shape { IfOk result IsLine }
-{
-    let mut line = Line {
-        limits: SectionList::new(alloc),
-        gradients: SectionList::new(alloc),
-    };
-    let mut n = 0;
-    while rows.next(row)? {
-        n += 1;
-        line.add_row(n, row)?;
-    }
-    match line.whole_fault() {
-        None => Ok(line),
-        Some(fault) => Err(fault),
     }
 }
 
@@ -267,13 +286,7 @@ pub fn read_line(alloc: Global, text: &[u8]) -> Result<Line, LineFault>
     ensures answer { result ≢ Err LineFault.NoMemory → result ≡ line_of text.now }
     ensures shape { IfOk result IsLine }
 {
-    let mut rows = Rows::new(alloc, text);
-    let mut row = ByteRecord::new(alloc);
-    let is_header = rows.next(&mut row)? && has_fields(&row, b"kind", b"from", b"to", b"value");
-    if !is_header {
-        return Err(LineFault::BadHeader);
-    }
-    read_rows(alloc, &mut rows, &mut row)
+    read_file(alloc, text)
 }
 
 #[cfg(test)]

@@ -1,13 +1,14 @@
 //! Service files.
 
-ghost use Rattle.std.specs.Prelude.{◌≡◌, ◌≢◌, ◌≤◌, ◌∷◌, ◌++◌, [], ℤ, pos, true, false, None, Some, option_map, IfOk, IfErr, OnOk};
+ghost use Rattle.std.specs.Prelude.{◌≡◌, ◌≢◌, ◌∷◌, ◌++◌, [], ℤ, pos, true, false, None, Some, option_map, IfOk, IfErr, OnOk};
 ghost use Rattle.std.specs.Int.RustNames.{unsigned_abs};
 ghost use Rattle.csv.specs.Records.{fields_of};
 ghost use Rattle.line_file.specs.Shape.{IsService};
-ghost use Rattle.line_file.specs.ServiceText.{are_seconds, below_header, call_from, call_of, is_in_range, latest_count, numbers_of, optional_number, rises, row_fault, service_of, whole_fault, with_row};
+ghost use Rattle.line_file.specs.ServiceText.{are_seconds, call_from, call_of, is_in_range, latest_count, numbers_of, optional_number, rises, service_of};
 
 use crate::calls::{Call, CallList};
-use crate::rows::{Rows, field, has_fields};
+use crate::row_file::{RowFile, read_file};
+use crate::rows::{field, has_fields};
 use csv::ByteRecord;
 use rail_base::{read_number, trim_spaces};
 use std::alloc::{AllocError, Global};
@@ -178,13 +179,51 @@ fn latest_count(calls: &[Call]) -> usize
     calls.iter().skip(1).filter(|c| c.latest.is_some()).count()
 }
 
-impl Service {
-    /// Adds row `n`, or says what is wrong with it.
-    fn add_row(&mut self, n: u32, row: &ByteRecord) -> Result<(), ServiceFault>
-        ensures few { OnOk result (n ≤ 1000) }
-        ensures ok { OnOk result ((row_fault n self.old (fields_of row.now) ≡ None) × (self.new ≡ with_row self.old (call_of (fields_of row.now)))) }
-        ensures fault { IfErr result (λ e. e ≢ ServiceFault.NoMemory → row_fault n self.old (fields_of row.now) ≡ Some e) }
-    {
+impl RowFile for Service {
+    ghost use Rattle.std.proofs.Common.{rules};
+    ghost use Rattle.line_file.specs.declared.service.ServiceFault.TheVariants.{BadHeader, NoMemory};
+    ghost use Rattle.line_file.specs.OneMoreRow.{service_from-push};
+    ghost use Rattle.line_file.specs.ServiceText.{call_of, is_service_header, row_fault, service_from, whole_fault, with_row};
+
+    type Fault = ServiceFault;
+
+    ghost no_memory = { NoMemory };
+
+    ghost bad_header = { BadHeader };
+
+    ghost is_header = { is_service_header };
+
+    ghost most_rows = { 1000 };
+
+    ghost from_rows = { service_from };
+
+    ghost with_row = { λ service fields. with_row service (call_of fields) };
+
+    ghost row_fault = { row_fault };
+
+    ghost whole_fault = { whole_fault };
+
+    ghost is_memory = { λ error fault is. is };
+
+    ghost counts = { Prim.search rules };
+
+    ghost adds = { service_from-push };
+
+    fn bad_header() -> ServiceFault {
+        ServiceFault::BadHeader
+    }
+
+    fn is_header(row: &ByteRecord) -> bool {
+        has_fields(row, b"place", b"name", b"dwell", b"latest")
+    }
+
+    fn without_rows(alloc: Global) -> Service {
+        Service {
+            calls: CallList::new(alloc),
+        }
+    }
+
+    fn add_row(&mut self, n: u32, row: &ByteRecord) -> Result<(), ServiceFault> {
         if row.len() != 4 {
             return Err(ServiceFault::BadRow(n));
         }
@@ -198,10 +237,7 @@ impl Service {
         }
     }
 
-    /// What is wrong with the service as a whole.
-    fn whole_fault(&self) -> Option<ServiceFault>
-        ensures { result ≡ whole_fault self.now }
-    {
+    fn whole_fault(&self) -> Option<ServiceFault> {
         let calls = self.calls.items();
         if calls.len() < 2 {
             Some(ServiceFault::TooFew)
@@ -213,36 +249,15 @@ impl Service {
             None
         }
     }
+}
 
+impl Service {
     /// The same service once more.
     pub fn copy(&self, alloc: Global) -> Result<Service, AllocError>
         ensures { IfOk result (λ service. service ≡ self.now) }
     {
         let calls = self.calls.copy(alloc)?;
         Ok(Service { calls })
-    }
-}
-
-/// Reads the rows below the header.
-fn read_rows(
-    alloc: Global,
-    rows: &mut Rows<'_>,
-    row: &mut ByteRecord,
-) -> Result<Service, ServiceFault>
-    ensures answer { result ≢ Err ServiceFault.NoMemory → result ≡ below_header rows.old }
-    ensures shape { IfOk result IsService }
-{
-    let mut service = Service {
-        calls: CallList::new(alloc),
-    };
-    let mut n = 0;
-    while rows.next(row)? {
-        n += 1;
-        service.add_row(n, row)?;
-    }
-    match service.whole_fault() {
-        None => Ok(service),
-        Some(fault) => Err(fault),
     }
 }
 
@@ -258,14 +273,7 @@ pub fn read_service(alloc: Global, text: &[u8]) -> Result<Service, ServiceFault>
     ensures answer { result ≢ Err ServiceFault.NoMemory → result ≡ service_of text.now }
     ensures shape { IfOk result IsService }
 {
-    let mut rows = Rows::new(alloc, text);
-    let mut row = ByteRecord::new(alloc);
-    let is_header = rows.next(&mut row)?
-        && has_fields(&row, b"place", b"name", b"dwell", b"latest");
-    if !is_header {
-        return Err(ServiceFault::BadHeader);
-    }
-    read_rows(alloc, &mut rows, &mut row)
+    read_file(alloc, text)
 }
 
 #[cfg(test)]
