@@ -1,6 +1,6 @@
 //! Files of the system.
 
-ghost use Rattle.std.specs.Prelude.{◌≡◌, ◌≢◌, ◌≤◌, ℕ, List, None, IfOk, OnOk, vec_len};
+ghost use Rattle.std.specs.Prelude.{◌≡◌, ◌≢◌, ◌≤◌, ◌++◌, ℕ, List, None, IfOk, IfSome, OnOk, take, vec_len};
 ghost use Rattle.rail_specs.specs.Faults.{Fetches, Rose};
 ghost use Rattle.edge_io.specs.Counts.{count_in, raised};
 
@@ -42,10 +42,12 @@ impl<'a, R: Files> FileShelf<'a, R> {
     }
 }
 
-/// Appends what a reader gives, up to `most` bytes in all. Each turn takes at least one byte or is the end.
+/// Appends what a reader gives, up to `most` bytes in all, and all of it where there is less. Each turn takes at least one byte or is
+/// the end.
 fn read_front<F: Read>(file: &mut F, most: usize, bytes: &mut Vec<u8>) -> io::Result<()>
     requires { vec_len bytes.old ≤ most }
-    ensures { vec_len bytes.new ≤ most }
+    ensures short { vec_len bytes.new ≤ most }
+    ensures front { OnOk result (IfSome (F.remaining file.old) (λ left. bytes.new.items ≡ take most (bytes.old.items ++ left))) }
 {
     let mut block = [0u8; BLOCK];
     while bytes.len() < most {

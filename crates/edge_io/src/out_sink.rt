@@ -1,6 +1,7 @@
 //! Bytes put to a stream of the system.
 
-ghost use Rattle.std.specs.Prelude.{◌≡◌, ◌≢◌, ◌≤◌, ◌<◌, ℕ, None, Ok, IfOk, length};
+ghost use Rattle.std.specs.Prelude.{◌≡◌, ◌≢◌, ◌≤◌, ◌<◌, ℕ, None, Ok, IfOk, length, take};
+ghost use Rattle.std.specs.Io.KnownBytes.{Appends};
 ghost use Rattle.rail_specs.specs.Faults.{HasCause};
 ghost use Rattle.edge_io.specs.Counts.{raised};
 
@@ -34,7 +35,8 @@ impl<W: Write + Drop> OutSink<W> {
 
 /// Writes a piece, and answers how many bytes the stream took before it took no more or failed.
 fn write_front<W: Write>(out: &mut W, piece: &[u8]) -> usize
-    ensures { result ≤ length piece.now }
+    ensures short { result ≤ length piece.now }
+    ensures front { Appends (W.contents out.old) (W.contents out.new) (take result piece.now) }
 {
     let mut at = 0;
     while at < piece.len() {
