@@ -60,7 +60,7 @@ impl From<AllocError> for LineFault {
     }
 }
 
-/// What a row of a line file is about.
+/// What a row of a line file is about: a speed limit or a gradient.
 #[derive(Clone, Copy)]
 pub(crate) enum Kind {
     Limit,
@@ -264,7 +264,7 @@ impl RowFile for Line {
 }
 
 impl Line {
-    /// The same line once more.
+    /// An equal line of its own, or want of memory.
     pub fn copy(&self, alloc: Global) -> Result<Line, AllocError>
         ensures { IfOk result (λ line. line ≡ self.now) }
     {

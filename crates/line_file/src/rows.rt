@@ -65,6 +65,7 @@ fn is_blank_row(row: &ByteRecord) -> bool
 #[derive(Drop)]
 pub(crate) struct Rows<'a> {
     reader: Reader<&'a [u8]>,
+    /// Whether the reader is at its end, or ran out of memory; then no row is left.
     done: bool,
 }
 
@@ -94,7 +95,7 @@ impl<'a> Rows<'a> {
         }
     }
 
-    /// Takes the next row, if there is one.
+    /// Takes the next row, and answers whether there was one. Or want of memory.
     ///
     /// Over a text in memory `csv` refuses no record of any number of fields, so the memory alone can run out.
     pub(crate) fn next(&mut self, row: &mut ByteRecord) -> Result<bool, AllocError>

@@ -252,7 +252,7 @@ impl RowFile for Service {
 }
 
 impl Service {
-    /// The same service once more.
+    /// An equal service of its own, or want of memory.
     pub fn copy(&self, alloc: Global) -> Result<Service, AllocError>
         ensures { IfOk result (λ service. service ≡ self.now) }
     {

@@ -4,7 +4,7 @@ ghost use Rattle.std.specs.Prelude.{◌≡◌, ℕ, ◌≤◌, ◌^◌, ◌↔�
 ghost use Rattle.std.specs.Int.RustNames.{unsigned_abs};
 ghost use Rattle.rail_specs.specs.Cost.{GapMet};
 
-/// Whether an energy and a bound of it, in one unit, differ by at most a tolerance in per mille of the energy.
+/// Whether an energy and a bound of it, both in 0.5 microjoule, differ by at most a tolerance in per mille of the energy.
 pub fn is_gap_met(energy: i128, bound: i128, tolerance: u32) -> bool
     requires energy { unsigned_abs energy ≤ 2 ^ 90 }
     requires bound { unsigned_abs bound ≤ 2 ^ 90 }

@@ -51,7 +51,7 @@ impl<T: Copy> ItemList<T> {
         Ok(())
     }
 
-    /// An equal list of its own.
+    /// An equal list of its own, or want of memory.
     pub fn copy(&self, alloc: Global) -> Result<ItemList<T>, AllocError>
         ensures { IfOk result (λ list. list ≡ self.now) }
     {

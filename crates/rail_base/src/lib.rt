@@ -1,4 +1,5 @@
-//! What every crate of the product stands on: numbers and lines of texts, lists, the cost of work, and the test of a gap.
+//! What several crates of the product share: numbers and lines of texts, lists, the costs of work and of links between cells, and
+//! the test of a gap.
 #![tactic(auto)]
 
 mod cell_cost;

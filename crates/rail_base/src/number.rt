@@ -67,7 +67,7 @@ pub fn read_count(field: &[u8]) -> Option<u32>
     Some(number as u32)
 }
 
-/// The number that 1 to 18 decimal digits write.
+/// The number that 1 to 18 decimal digits write, and `None` exactly where the text is anything else.
 fn read_size(text: &[u8]) -> Option<i64>
     ensures value { result ≡ option_map pos (digits_number 18 text.now) }
     ensures small { IfSome result (λ n. n <ℤ pos (10 ^ 18)) }
@@ -103,7 +103,7 @@ pub fn read_number(text: &[u8]) -> Option<i64>
     }
 }
 
-/// A number as one without a sign, where it is from `low` to `high`.
+/// A number as one without a sign, and `None` exactly where it is not from `low` to `high`.
 pub fn natural_within(number: i64, low: u32, high: u32) -> Option<u32>
     ensures value { result ≡ (if is_within (pos low) (pos high) number then Some (unsigned_abs number) else None) }
     ensures least { IfSome result (λ n. low ≤ n) }

@@ -27,5 +27,6 @@ pub record IsRow (r : Inside) : Type 0 where
   pub fall : 10000 * r.numbers.inertia - r.numbers.c * r.numbers.metres ≡ r.fall
   pub unit : 2000000 * r.numbers.metres ≡ r.unit
 
+-- numbers give back the row that they came from
 pub row_of-numbers : (r : Inside) → IsRow r → row_of r.numbers ≡ r
 row_of-numbers r h = λ i. record { numbers = r.numbers; rise = h.rise i; slope = h.slope i; base = h.base i; fall = h.fall i; unit = h.unit i }

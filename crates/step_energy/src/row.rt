@@ -55,7 +55,8 @@ fn climb(numbers: &StepNumbers) -> i64
 }
 
 impl StepRow {
-    /// The row of a step, or `DragTooGreat` exactly where `C x >= 10000 me`. It counts one step, on a refusal too, and takes no memory.
+    /// The row of a step, or `DragTooGreat` exactly where `c * metres` is at least `10000 * inertia`, in the units of `StepNumbers`.
+    /// It counts one step, on a refusal too, and takes no memory.
     pub fn make<L: Ledger>(
         numbers: StepNumbers,
         steps: &mut Steps<L>,
@@ -84,7 +85,8 @@ impl StepRow {
         })
     }
 
-    /// The part of the work that the exit speed decides, in 0.5 microjoule.
+    /// The part of the work, in 0.5 microjoule, that the exit speed v1 in cm/s decides: the kinetic energy there, the gradient, and the
+    /// resistance but for the drag at the entry.
     pub fn up(&self, v1: u16) -> i128
         requires { v1 ≤ 12001 }
         ensures value { result ≡ work_up self.now v1 }
@@ -93,7 +95,8 @@ impl StepRow {
         self.exit_part(v1) as i128
     }
 
-    /// The part of the work that the entry speed pays, in 0.5 microjoule.
+    /// The part of the work, in 0.5 microjoule, that the entry speed v0 in cm/s pays: the kinetic energy there, less the drag at the
+    /// entry.
     pub fn down(&self, v0: u16) -> i128
         requires { v0 ≤ 12001 }
         ensures value { result ≡ pos (work_down self.now v0) }
@@ -102,7 +105,7 @@ impl StepRow {
         self.entry_part(v0) as i128
     }
 
-    /// The work from speed v0 to speed v1, in 0.5 microjoule.
+    /// The work, in 0.5 microjoule, from speed v0 to speed v1 in cm/s: `up(v1) - down(v0)`.
     pub fn work(&self, v0: u16, v1: u16) -> i128
         requires entry { v0 ≤ 12001 }
         requires exit { v1 ≤ 12001 }
@@ -112,7 +115,7 @@ impl StepRow {
         self.short_work(v0, v1) as i128
     }
 
-    /// The work from speed v0 to speed v1 in 64 bits, which it always fits: what inner loops compare and add.
+    /// `work` in 64 bits, which it always fits: what inner loops compare and add.
     pub fn short_work(&self, v0: u16, v1: u16) -> i64
         requires entry { v0 ≤ 12001 }
         requires exit { v1 ≤ 12001 }
@@ -170,7 +173,8 @@ impl StepRow {
         (self.fall * (v * v)) as i64
     }
 
-    /// Both parts of the work rise with speed, and the work is their difference.
+    /// What holds of every row: its numbers are in range, its drag is below the kinetic energy, both parts of the work rise with speed,
+    /// and the work is their difference.
     #[tactic(auto, using(rail_specs::proofs::WorkLemmas::work_parts, rail_specs::proofs::WorkLemmas::work_up_rises, rail_specs::proofs::WorkLemmas::work_down_rises))]
     pub fn laws(&self)
         ensures in_range { IsInRange self.now }

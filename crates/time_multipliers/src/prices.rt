@@ -12,9 +12,11 @@ const MOST_STEPS: usize = 4_000;
 /// What each timing point charges for a ms before it, in 0.5 microjoule, in the order of the points.
 #[derive(Drop)]
 pub struct Prices {
+    /// The timing points, in rising order.
     points: Vec<u32>,
+    /// What each of them charges.
     values: Vec<u64>,
-    /// The price of each step before the last timing point, as far as a run has steps.
+    /// The price of each step before the last timing point, up to as many steps as are kept ready.
     by_step: Vec<u64>,
 }
 
@@ -33,7 +35,8 @@ impl Model for Prices {
 impl Prices {
     /// The prices of timing points: for each point, in rising order, what it charges for a ms before it, in 0.5 microjoule.
     ///
-    /// `AllocError` comes for want of memory alone.
+    /// There are 1 to 64 points, none of them point 0, and each has a price of at most 2^50. `AllocError` comes for want of memory
+    /// alone.
     pub fn make(alloc: Global, points: &[u32], values: &[u64]) -> Result<Prices, AllocError>
         requires { ArePrices (record { points = points.now; values = values.now }) }
         ensures { IfOk result (λ prices. prices ≡ record { points = points.now; values = values.now }) }
@@ -89,7 +92,7 @@ impl Prices {
     }
 }
 
-/// The sum of the prices of the timing points behind point i.
+/// The price of a ms of step i: the sum of the prices of the timing points behind its first point, which is point i.
 fn price_behind(points: &[u32], values: &[u64], i: usize) -> u64
     requires { ArePrices (record { points = points.now; values = values.now }) }
     ensures value { result ≡ step_price (record { points = points.now; values = values.now }) i }

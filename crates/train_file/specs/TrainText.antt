@@ -101,11 +101,12 @@ table_refusal k amiss.NoMemory = fault.NoMemory
 abbrev pub forces_of : List (ℕ × ℕ) → List ℕ
 forces_of rows = map (force rows) (range_with_len 0 (top_speed rows + 1))
 
--- the forces of a key's rows, or the fault of their table
+-- these forces, or the fault of a key's table
 abbrev pub unless_amiss : Key → Option TableFault → List ℕ → Result (List ℕ) TrainFault
 unless_amiss k None forces = Ok forces
 unless_amiss k (Some amiss) forces = Err (table_refusal k amiss)
 
+-- the forces of a key's rows, or the fault of their table
 abbrev pub table_of_rows : Key → List (ℕ × ℕ) → Result (List ℕ) TrainFault
 table_of_rows k rows = unless_amiss k (table_fault rows) (forces_of rows)
 
@@ -134,7 +135,7 @@ train_in ms =
 abbrev pub table_of : List ℕ → Option Members
 table_of text = if is_utf8 text then parse_document text else None
 
--- the train of a table, where the text is one
+-- the train of a text's table, where the text has one
 abbrev pub read : Option Members → Result Train TrainFault
 read None = Err fault.Text
 read (Some ms) = train_in ms

@@ -29,7 +29,7 @@ pub enum Key {
 pub enum TrainFault {
     /// The bytes are not UTF-8, or not TOML.
     Text,
-    /// The key is needed, and the text has none.
+    /// The key is needed, and the text doesn't have it.
     Missing(Key),
     /// The key's value is of another kind than an integer, or for a table than an array of arrays of two integers.
     WrongKind(Key),

@@ -6,11 +6,12 @@
 
 mod fault;
 mod read;
-#[cfg(test)]
-mod tests;
 mod train;
 mod values;
 
 pub use fault::{Key, TrainFault};
 pub use read::read_train;
 pub use train::Train;
+
+#[cfg(test)]
+mod tests;

@@ -39,7 +39,7 @@ impl Train {
         }
     }
 
-    /// An equal train of its own.
+    /// An equal train of its own, or want of memory.
     pub fn copy(&self, alloc: Global) -> Result<Train, AllocError>
         ensures { IfOk result (λ train. train ≡ self.now) }
     {
