@@ -24,9 +24,11 @@ impl Model for Grid {
 }
 
 impl Grid {
-    /// The grid from one place to another: both ends, and each mark and each multiple of the step that lies between them.
+    /// The grid from one place to another: both ends, and each mark and each multiple of the step that lies between them, all in metres.
+    /// The marks may stand in any order.
     ///
-    /// `BadSpan` comes exactly where the start isn't below the end, `TooManySteps` exactly where there are more than 4,001 places.
+    /// `BadSpan` comes exactly where the start isn't below the end, `TooManySteps` exactly where there are more than 4,001 places, and
+    /// `NoMemory` for want of memory.
     pub fn make(
         alloc: Global,
         marks: &[u32],
@@ -49,7 +51,7 @@ impl Grid {
         Ok(Grid { places })
     }
 
-    /// The places in metres, in rising order.
+    /// The places in metres, in rising order. It takes no memory.
     pub fn places(&self) -> &[u32]
         ensures { result.now ≡ self.now }
     {

@@ -31,7 +31,7 @@ impl<'a, R: Files> Model for FileShelf<'a, R> {
 }
 
 impl<'a, R: Files> FileShelf<'a, R> {
-    /// The files that the runtime reaches.
+    /// The files that the runtime reaches. No name has had a fault.
     pub fn new(alloc: Global, files: &'a R) -> FileShelf<'a, R>
         ensures { (n : List ℕ) → count_in result n ≡ 0 }
     {

@@ -34,7 +34,8 @@ impl Model for MemorySink {
 
 impl MemorySink {
     /// A sink that takes at most `piece` bytes at once and `room` bytes in all, and fails at the calls of these
-    /// numbers. The first put of a piece that has bytes has the number 1. All memory is taken here.
+    /// numbers. The first put of a piece that has bytes has the number 1. All memory is taken here, and `AllocError` comes for want of it
+    /// alone.
     pub fn new(
         alloc: Global,
         piece: usize,
@@ -55,7 +56,7 @@ impl MemorySink {
         })
     }
 
-    /// The bytes that were put.
+    /// The bytes that were put, in order. It takes no memory.
     pub fn bytes(&self) -> &[u8]
         ensures { result.now ≡ self.now.written }
     {

@@ -25,7 +25,7 @@ impl<W: Write + Drop> Model for OutSink<W> {
 }
 
 impl<W: Write + Drop> OutSink<W> {
-    /// A sink over a stream.
+    /// A sink over a stream. It has had no fault.
     pub fn new(out: W) -> OutSink<W>
         ensures { result ≡ 0 }
     {
