@@ -6,7 +6,7 @@ use Rattle.std.proofs.lemmas.List.Elements.{Contains-get_or}
 use Rattle.rail_specs.specs.declared.Cell.{Cell}
 use Rattle.rail_specs.specs.Cells.{cells_of, cell_at, no_cell, IsCell, HasSpeed, RunInside, AreAdjacent}
 use Rattle.rail_specs.specs.Chains.{plus, IsAtMost, cost_along, RunThrough, IsLeastChain, value_at, ArePotentials, AreCellCosts, WeakDuality}
-use Rattle.potential_table.specs.Filling.{IsInRange}
+use Rattle.potential_table.specs.Filling.{IsSmallSum}
 use Rattle.potential_table.proofs.Orders.{at_most-trans, at_most-refl, plus_rises, IsWithin, plus_within}
 
 -- the cells of these points are intervals of speeds
@@ -68,7 +68,7 @@ module _ (n : ℕ) (real : ℕ → ℕ → ℕ → Option ℤ) (low : ℕ → Ce
   module _ (cells : List (List Cell)) (points : length cells ≡ n + 1) (known : AreCellsOfPoints cells) where
     -- the least that a chain costs is a value of a table of at most 4,000 steps
     pub least_small : (k : ℕ) (a : Cell) (v : Option ℤ) → n ≤ 4000 → k < length cells → IsCell a → IsLeastChain low k cells a v
-        → IsInRange v
+        → IsSmallSum v
     least_small k a None few lt cell h = tt
     least_small k a (Some p) few lt cell h =
         let e : length (drop (k + 1) cells) ≡ length cells - (k + 1) = length-drop (k + 1) cells in

@@ -1,9 +1,8 @@
 -- Reading the values of a point's cells in the list of all values.
-use Rattle.std.proofs.Common.{ℕ, zero, suc, ◌≡◌, ◌<◌, ◌≤◌, ◌+◌, ◌-◌, ◌^◌, ◌∙◌, Option, None, List, [], ◌++◌, length, length-append, get_or, take, drop, ap, sym, subst, arith, length-drop, length-take}
+use Rattle.std.proofs.Common.{ℕ, zero, suc, ◌≡◌, ◌<◌, ◌≤◌, ◌+◌, ◌-◌, ◌^◌, ◌∙◌, Option, None, List, [], length, get_or, drop, ap, sym, subst, arith, length-drop, length-take}
 use Rattle.std.specs.Prelude.{ℤ, IfSome}
 use Rattle.std.specs.Int.RustNames.{unsigned_abs}
-use Rattle.std.proofs.lemmas.List.{get_or_default, get_or-drop, get_or-take, get_or-append_right}
-use Rattle.std.proofs.Math.ListN.{get_or-append}
+use Rattle.std.proofs.lemmas.List.{get_or_default, get_or-drop, get_or-take}
 use Rattle.std.proofs.lemmas.List.FromFn.{length-map-range_with_len, get_or-map-range_with_len}
 use Rattle.rail_specs.specs.Chains.{values_of, value_at}
 use Rattle.potential_table.specs.Layout.{part_of, values_in, IsLayout}
@@ -99,16 +98,3 @@ module _ (starts : List ℕ) (values : List (Option ℤ)) (view : List (List (Op
       → v ≡ get_or values (s + c) v → IfSome v (λ p. unsigned_abs p ≤ 2 ^ 98)
   small_seen s c v e lt g = subst (λ (w : Option ℤ). IfSome w (λ p. unsigned_abs p ≤ 2 ^ 98)) (sym (value_read s c v e lt g))
       (layout.small (s + c))
-
--- a place in the middle one of parts that are joined
-pub get_or-middle : (front here post back : List (Option ℤ)) (start a : ℕ) (d : Option ℤ) → start ≤ length front → a < length here
-    → get_or (take start front ++ (here ++ post) ++ back) (start + a) d ≡ get_or here a d
-get_or-middle front here post back start a d le lt =
-    let first : length (take start front) ≡ start = omega (arith, length-take start front) in
-    let two : start + a < length (take start front ++ (here ++ post)) =
-    omega (arith, length-append (take start front) (here ++ post), length-append here post, first) in
-    let e : start + a - start ≡ a = omega arith in
-    get_or-append (take start front ++ (here ++ post)) back d (start + a) two
-    ∙ get_or-append_right (take start front) (here ++ post) start (start + a) d first (omega arith)
-    ∙ ap (λ i. get_or (here ++ post) i d) e
-    ∙ get_or-append here post d a lt

@@ -1,10 +1,11 @@
 -- The least of the numbers so far, when one more comes.
-use Rattle.std.proofs.Common.{ℕ, ◌≡◌, ◌<◌, ◌+◌, ◌∙◌, Option, Some, None, refl, ap, sym, subst, arith, inl, inr, true, false}
-use Rattle.std.specs.Prelude.{ℤ, ◌⊎◌, IfSome, int_le, cond, Bool}
+use Rattle.std.proofs.Common.{ℕ, ◌≡◌, ◌<◌, ◌+◌, ◌-◌, ◌^◌, ◌∙◌, Option, Some, None, refl, ap, sym, subst, arith, inl, inr, true, false, pos}
+use Rattle.std.specs.Prelude.{ℤ, ◌⊎◌, ◌≤ℤ◌, ◌<ℤ◌, IfSome, int_le, int_lt, cond, Bool}
+use Rattle.std.specs.Int.{int_min}
 use Rattle.std.proofs.lemmas.Int.{ints}
 use Rattle.std.proofs.lemmas.Bool.{cases_lt}
-use Rattle.rail_specs.specs.Chains.{plus, IsAtMost}
-use Rattle.potential_table.specs.Filling.{lesser, IsLeastOf}
+use Rattle.rail_specs.specs.Chains.{IsAtMost}
+use Rattle.potential_table.specs.Filling.{lesser, sum_found, IsLeastOf}
 use Rattle.potential_table.proofs.Orders.{at_most-refl, at_most-trans}
 
 -- the lesser of two numbers, by the test that picks it, is at most the first
@@ -64,23 +65,32 @@ least_more f m v w h e = subst (IsLeastOf f (m + 1)) (sym e) record {
   ];
 }
 
--- a number that isn't there changes nothing
-pub least_kept : (f : ℕ → Option ℤ) (m : ℕ) (v : Option ℤ) → IsLeastOf f m v → f m ≡ None → IsLeastOf f (m + 1) v
-least_kept f m v h e = least_more f m v v h (ap (lesser v) (sym e))
+-- the order of two numbers, as its test tells it
+int_le-false : (p q : ℤ) → q <ℤ p → int_le p q ≡ false
+int_le-false p q h = grind (arith, ints, h)
 
--- a sum isn't there where its second part isn't
-pub plus_none : (p q : Option ℤ) → q ≡ None → plus p q ≡ None
-plus_none None q e = refl
-plus_none (Some p) q e = ap (plus (Some p)) e
+int_le-true : (p q : ℤ) → p ≤ℤ q → int_le p q ≡ true
+int_le-true p q h = grind (arith, ints, h)
 
--- one of the first m numbers is one of the same numbers
-same_one : (f g : ℕ → Option ℤ) (m : ℕ) (v : Option ℤ) → ((c : ℕ) → f c ≡ g c) → IsOne f m v → IsOne g m v
-same_one f g m None same h = tt
-same_one f g m (Some p) same h = (h.0, h.1, sym (same h.0) ∙ h.2)
+-- what a number below the one for no sum stands for
+found_itself : (p : ℤ) → p <ℤ pos (2 ^ 127 - 1) → sum_found p ≡ Some p
+found_itself p h = rw (int_le-false (pos (2 ^ 127 - 1)) p h) refl
 
--- the least of the same numbers is the same
-pub least_same : (f g : ℕ → Option ℤ) (m : ℕ) (v w : Option ℤ) → ((c : ℕ) → f c ≡ g c) → v ≡ w → IsLeastOf f m v → IsLeastOf g m w
-least_same f g m v w same e h = subst (IsLeastOf g m) e record {
-  attained = same_one f g m v same h.attained;
-  below = λ c l. subst (IsAtMost v) (same c) (h.below c l);
-}
+-- a sum is the lesser of itself and what a greater number stands for
+lesser_new : (p q : ℤ) (none : Bool) → int_le (pos (2 ^ 127 - 1)) p ≡ none → q <ℤ p → lesser (sum_found p) (Some q) ≡ Some q
+lesser_new p q true e h = rw e refl
+lesser_new p q false e h = rw (e, int_le-false p q h) refl
+
+-- the lesser of a number and a sum, by the test that picks it
+lesser_picked : (p q : ℤ) (second : Bool) → int_lt q p ≡ second → q <ℤ pos (2 ^ 127 - 1) → sum_found (cond second q p) ≡ lesser (sum_found p) (Some q)
+lesser_picked p q true e h =
+    let less : q <ℤ p = grind (arith, ints, e) in
+    found_itself q h ∙ sym (lesser_new p q (int_le (pos (2 ^ 127 - 1)) p) refl less)
+lesser_picked p q false e h =
+    let more : p ≤ℤ q = grind (arith, ints, e) in
+    let small : p <ℤ pos (2 ^ 127 - 1) = omega (arith, ints, more, h) in
+    rw (found_itself p small, int_le-true p q more) refl
+
+-- the lesser of a number and a sum stands for the lesser of what the number stands for and the sum
+pub found_lesser : (p q w : ℤ) → w ≡ int_min p q → q <ℤ pos (2 ^ 127 - 1) → sum_found w ≡ lesser (sum_found p) (Some q)
+found_lesser p q w e h = ap sum_found e ∙ lesser_picked p q (int_lt q p) refl h

@@ -1,6 +1,5 @@
 pub mod BoundLemmas
 pub mod Duality
-pub mod FillLemmas
 pub mod LayoutLemmas
 pub mod LeastLemmas
 pub mod LinkLemmas
@@ -9,3 +8,4 @@ pub mod StartLemmas
 pub mod StepBack
 pub mod TableLemmas
 pub mod TimingLemmas
+pub mod WayLemmas

@@ -7,7 +7,7 @@ use Rattle.std.proofs.lemmas.List.{get_or_past}
 use Rattle.rail_specs.specs.declared.Cell.{Cell}
 use Rattle.rail_specs.specs.Cells.{cells_of, cell_at}
 use Rattle.rail_specs.specs.Chains.{IsLeastChain, AreCellCosts, ArePotentials, values_of}
-use Rattle.potential_table.specs.Filling.{IsLeastOf, through, IsInRange, AreStarts, IsFilled}
+use Rattle.potential_table.specs.Filling.{IsLeastOf, through, IsSmallSum, AreStarts, IsFilled}
 use Rattle.potential_table.specs.Layout.{values_in, IsLayout}
 use Rattle.potential_table.proofs.Duality.{AreCellsOfPoints, least_small}
 use Rattle.potential_table.proofs.LayoutLemmas.{points, count, value}
@@ -15,7 +15,7 @@ use Rattle.potential_table.proofs.StartLemmas.{starts_rise, later}
 use Rattle.potential_table.proofs.StepBack.{least_at_end, step_back}
 
 -- what a table of at most 4,000 steps holds is small
-in_table : (p : Option ℤ) → IsInRange p → IfSome p (λ q. unsigned_abs q ≤ 2 ^ 98)
+in_table : (p : Option ℤ) → IsSmallSum p → IfSome p (λ q. unsigned_abs q ≤ 2 ^ 98)
 in_table None h = tt
 in_table (Some p) h = omega (arith, h)
 
@@ -36,14 +36,14 @@ module _ (n : ℕ) (real : ℕ → ℕ → ℕ → Option ℤ) (low : ℕ → Ce
         (least_at_end low n cells (cell_at cells n c) (omega (arith, long)))) in_point;
     empty = before;
     small = λ j. elim (cases_lt j (get_or starts n 0)) [
-      | inl l ↦ subst IsInRange (sym (before j l)) tt
+      | inl l ↦ subst IsSmallSum (sym (before j l)) tt
       | inr le ↦ elim (cases_lt j (length values)) [
         | inl l ↦
             let c : ℕ = j - get_or starts n 0 in
             let e : get_or starts n 0 + c ≡ j = omega arith in
             let in_point : c < length (cells_of cells n) = omega (arith, e, l, all, h.next n (omega (arith, long))) in
-            subst IsInRange (sym (last c in_point) ∙ ap (λ i. get_or values i None) e) (omega arith)
-        | inr past ↦ subst IsInRange (sym (get_or_past values j None past)) tt
+            subst IsSmallSum (sym (last c in_point) ∙ ap (λ i. get_or values i None) e) (omega arith)
+        | inr past ↦ subst IsSmallSum (sym (get_or_past values j None past)) tt
       ]
     ];
   }
@@ -87,12 +87,12 @@ module _ (n : ℕ) (real : ℕ → ℕ → ℕ → Option ℤ) (low : ℕ → Ce
     ]
 
     -- the values that were filled in are small
-    small_here : (j : ℕ) → get_or starts i 0 ≤ j → j < get_or starts (i + 1) 0 → IsInRange (get_or new j None)
+    small_here : (j : ℕ) → get_or starts i 0 ≤ j → j < get_or starts (i + 1) 0 → IsSmallSum (get_or new j None)
     small_here j le l =
         let c : ℕ = j - get_or starts i 0 in
         let e : get_or starts i 0 + c ≡ j = omega arith in
         let in_point : c < length (cells_of cells i) = omega (arith, e, l, h.next i (omega (arith, lt, long))) in
-        subst (λ p. IsInRange (get_or new p None)) e
+        subst (λ p. IsSmallSum (get_or new p None)) e
         (least_small n real low laws cells long known i (cell_at cells i c) (get_or new (get_or starts i 0 + c) None)
         (omega (arith, few, long)) (omega (arith, lt, long)) (known i c (omega (arith, lt, long)) in_point)
         (least_here c in_point))
@@ -103,10 +103,10 @@ module _ (n : ℕ) (real : ℕ → ℕ → ℕ → Option ℤ) (low : ℕ → Ce
       least = least_from;
       empty = λ j l. before_kept j l ∙ behind.empty j (omega (arith, l, h.next i (omega (arith, lt, long))));
       small = λ j. elim (cases_lt j (get_or starts i 0)) [
-        | inl l ↦ subst IsInRange (sym (before_kept j l)) (behind.small j)
+        | inl l ↦ subst IsSmallSum (sym (before_kept j l)) (behind.small j)
         | inr le ↦ elim (cases_lt j (get_or starts (i + 1) 0)) [
           | inl l ↦ small_here j le l
-          | inr past ↦ subst IsInRange (sym (behind_kept j past)) (behind.small j)
+          | inr past ↦ subst IsSmallSum (sym (behind_kept j past)) (behind.small j)
         ]
       ];
     }

@@ -1,8 +1,8 @@
 -- How the table is filled, from the last point backwards.
-use Rattle.std.specs.Prelude.{ℕ, ◌+◌, ◌*◌, ◌^◌, ◌<◌, ◌≤◌, ◌≡◌, ℤ, cond, int_le, List, Option, Some, None, IfSome, length, slice_index, slice_index_or}
+use Rattle.std.specs.Prelude.{ℕ, ◌+◌, ◌*◌, ◌^◌, ◌<◌, ◌≤◌, ◌≡◌, ◌-◌, ℤ, pos, cond, int_le, List, Option, Some, None, IfSome, length, slice_index, slice_index_or}
 use Rattle.std.specs.Int.RustNames.{unsigned_abs}
 use Rattle.rail_specs.specs.declared.Cell.{Cell}
-use Rattle.rail_specs.specs.Cells.{cells_of, cell_at, no_cell, IsCell}
+use Rattle.rail_specs.specs.Cells.{cells_of, cell_at, no_cell}
 use Rattle.rail_specs.specs.Chains.{plus, IsAtMost, IsLeastChain}
 
 -- the lesser of two numbers; none stands above every number
@@ -10,6 +10,10 @@ abbrev pub lesser : Option ℤ → Option ℤ → Option ℤ
 lesser p None = p
 lesser None (Some q) = Some q
 lesser (Some p) (Some q) = cond (int_le p q) (Some p) (Some q)
+
+-- the sum that a number stands for; 2^127 - 1 stands for none, so that it is above every sum
+abbrev pub sum_found : ℤ → Option ℤ
+sum_found n = cond (int_le (pos (2 ^ 127 - 1)) n) None (Some n)
 
 -- v is the least of the first m of these numbers, and none where each of them is none
 pub record IsLeastOf (f : ℕ → Option ℤ) (m : ℕ) (v : Option ℤ) : Type 0 where
@@ -28,23 +32,9 @@ value_in values j = slice_index_or values j None
 abbrev pub value_from : List (Option ℤ) → ℕ → ℕ → Option ℤ
 value_from values start c = slice_index_or values (start + c) None
 
--- each left cell's value is lowered to what the link to one right cell costs together with what lies beyond it
-abbrev pub AreLoweredTo : (ℕ → Cell → Cell → Option ℤ) → ℕ → List Cell → Cell → ℤ → (ℕ → Option ℤ) → (ℕ → Option ℤ) → Type 0
-AreLoweredTo low i left right beyond old new =
-    (a : ℕ) → a < length left → new a ≡ lesser (old a) (plus (low i (slice_index_or left a no_cell) right) (Some beyond))
-
--- each left cell's value is the least over all right cells
-abbrev pub AreLeastThrough : (ℕ → Cell → Cell → Option ℤ) → ℕ → List Cell → List Cell → (ℕ → Option ℤ) → (ℕ → Option ℤ) → Type 0
-AreLeastThrough low i left right beyond value =
-    (a : ℕ) → a < length left → IsLeastOf (through low i (slice_index_or left a no_cell) right beyond) (length right) (value a)
-
--- each of these is an interval of speeds
-abbrev pub AreCells : List Cell → Type 0
-AreCells cs = (c : ℕ) → c < length cs → IsCell (slice_index_or cs c no_cell)
-
--- a value is one of a table's
-abbrev pub IsInRange : Option ℤ → Type 0
-IsInRange p = IfSome p (λ n. unsigned_abs n ≤ 4000 * 2 ^ 86)
+-- a number is within 4,000 times 2^86, as the sum of so many small costs is, where there is one
+abbrev pub IsSmallSum : Option ℤ → Type 0
+IsSmallSum p = IfSome p (λ n. unsigned_abs n ≤ 4000 * 2 ^ 86)
 
 -- where the values of each point begin, and where they all end
 pub record AreStarts (starts : List ℕ) (cells : List (List Cell)) : Type 0 where
@@ -58,4 +48,4 @@ pub record IsFilled (low : ℕ → Cell → Cell → Option ℤ) (cells : List (
   pub least : (k c : ℕ) → i ≤ k → k < length cells → c < length (cells_of cells k)
       → IsLeastChain low k cells (cell_at cells k c) (slice_index_or values (slice_index starts k + c) None)
   pub empty : (j : ℕ) → j < slice_index starts i → slice_index_or values j None ≡ None
-  pub small : (j : ℕ) → IsInRange (slice_index_or values j None)
+  pub small : (j : ℕ) → IsSmallSum (slice_index_or values j None)

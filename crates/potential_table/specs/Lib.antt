@@ -4,3 +4,4 @@ pub mod Layout
 pub mod PricedLaws
 pub mod Soundness
 pub mod Slopes
+pub mod Ways

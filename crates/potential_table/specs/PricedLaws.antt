@@ -22,12 +22,12 @@ use Rattle.drive_rules.specs.Shaped.{IsShaped}
 use Rattle.potential_table.specs.Soundness.{IsPricing}
 
 -- a link that is possible, part by part
-record IsLink (r : Rules) (i : ℕ) (a b : Cell) : Type 0 where
-  limit : (a.first ≤ slice_index r.limits i) × (b.first ≤ slice_index r.limits i)
-  top : (a.first ≤ r.top) × (b.first ≤ r.top)
-  moving : 1 ≤ a.last + b.last
-  traction : work (step_at r i) a.last b.first ≤ℤ pos (traction_work r i b.first)
-  brake : neg_ℤ (pos (brake_work r i a.first)) ≤ℤ work (step_at r i) a.first b.last
+pub record IsLink (r : Rules) (i : ℕ) (a b : Cell) : Type 0 where
+  pub limit : (a.first ≤ slice_index r.limits i) × (b.first ≤ slice_index r.limits i)
+  pub top : (a.first ≤ r.top) × (b.first ≤ r.top)
+  pub moving : 1 ≤ a.last + b.last
+  pub traction : work (step_at r i) a.last b.first ≤ℤ pos (traction_work r i b.first)
+  pub brake : neg_ℤ (pos (brake_work r i a.first)) ≤ℤ work (step_at r i) a.first b.last
 
 -- the tests of a link, one by one
 seven : (a b c d e f g : Bool) → ((a && b) && (c && d) && e && f && g) ≡ true →
@@ -55,7 +55,7 @@ link_parts r i a b h =
       brake = le_tells (neg_ℤ (pos (brake_work r i a.first))) (work (step_at r i) a.first b.last) t.4;
     }
 
-link_whole : (r : Rules) (i : ℕ) (a b : Cell) → IsLink r i a b → can_link r i a b ≡ true
+pub link_whole : (r : Rules) (i : ℕ) (a b : Cell) → IsLink r i a b → can_link r i a b ≡ true
 link_whole r i a b l = grind (arith, nat_tests, ints)
 
 -- a step can be driven exactly where it moves and is kept

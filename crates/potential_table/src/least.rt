@@ -1,10 +1,12 @@
 //! Least chains of cells, by a table from the last point backwards.
 ghost use Rattle.std.specs.Prelude.{◌≡◌, ℕ, pos, ◌+◌, ◌<◌, ◌≤◌, ◌++◌, length, replicate, Some, None, IfOk, OnOk, slice_index};
-ghost use Rattle.rail_specs.specs.Cells.{cells_of, IsCell};
+ghost use Rattle.rail_specs.specs.Cells.{cells_of, cell_at, IsCell};
 ghost use Rattle.rail_specs.specs.Chains.{plus, IsSmall, ArePotentials, WeakDuality};
-ghost use Rattle.potential_table.specs.Filling.{lesser, through, value_in, value_from, AreLeastThrough, AreCells, IsInRange, IsLeastOf, AreStarts, IsFilled};
+ghost use Rattle.potential_table.specs.Filling.{lesser, sum_found, value_in, value_from, IsSmallSum, IsLeastOf, AreStarts, IsFilled};
+ghost use Rattle.potential_table.specs.Ways.{by_way, AreUsable};
 
 use crate::table::Potentials;
+use crate::ways::{Way, read_ways};
 use rail_base::{Cell, CellCost};
 use speed_cells::Cells;
 use std::alloc::{AllocError, Global};
@@ -87,128 +89,73 @@ fn fill<K: CellCost>(
     ensures { OnOk result (IsFilled (K.low_cost cost.now) cells.now starts.now values.new 0) }
 {
     cells.known();
-    let mut left = Vec::new(alloc);
-    let mut right = Vec::new(alloc);
+    let mut ways = Vec::new(alloc);
     for i in (0..cost.steps()).rev() {
-        read_cells(cells, i, &mut left)?;
-        read_cells(cells, i + 1, &mut right)?;
-        fill_point(
-            cost,
-            i,
-            left.as_slice(),
-            right.as_slice(),
-            starts[i],
-            starts[i + 1],
-            values,
-        );
+        read_ways(cells, i + 1, values, starts[i + 1], &mut ways)?;
+        fill_point(cells, cost, i, ways.as_slice(), values, starts[i]);
     }
     Ok(())
 }
 
-/// Reads the cells of a point.
-fn read_cells(cells: &Cells, point: usize, list: &mut Vec<Cell>) -> Result<(), AllocError>
-    requires { point < length cells.now }
-    ensures value { OnOk result (list.new.items ≡ cells_of cells.now point) }
-    ensures cells { OnOk result (AreCells list.new.items) }
-{
-    list.clear();
-    for c in 0..cells.of(point) {
-        list.push(cells.cell(point, c))?;
-    }
-    Ok(())
-}
-
-/// Fills in the values of a point, which stand between two places of the list, from those behind them.
+/// Fills in the values of a point's cells, which begin at a place of the list, by the ways on from the next point.
 fn fill_point<K: CellCost>(
+    cells: &Cells,
     cost: &K,
     i: usize,
-    left: &[Cell],
-    right: &[Cell],
-    start: usize,
-    end: usize,
+    ways: &[Way],
     values: &mut [Option<i128>],
+    start: usize,
 )
     requires step { i < K.step_count cost.now }
     requires sound { K.is_sound cost.now }
-    requires left { AreCells left.now }
-    requires right { AreCells right.now }
-    requires here { end ≡ start + length left.now }
-    requires behind { end + length right.now ≤ length values.old }
-    requires small { (j : ℕ) → IsInRange (value_in values.old j) }
-    ensures filled { AreLeastThrough (K.low_cost cost.now) i left.now right.now (value_from values.old end) (value_from values.new start) }
+    requires point { i < length cells.now }
+    requires ways { AreUsable ways.now }
+    requires inside { start + length (cells_of cells.now i) ≤ length values.old }
+    ensures filled { (a : ℕ) → a < length (cells_of cells.now i) → IsLeastOf (by_way (K.low_cost cost.now) i (cell_at cells.now i a) ways.now) (length ways.now) (value_from values.new start a) }
     ensures before { (j : ℕ) → j < start → value_in values.new j ≡ value_in values.old j }
-    ensures behind { (j : ℕ) → end ≤ j → value_in values.new j ≡ value_in values.old j }
+    ensures behind { (j : ℕ) → start + length (cells_of cells.now i) ≤ j → value_in values.new j ≡ value_in values.old j }
 {
-    let (front, back) = values.split_at_mut(end);
-    find_values(cost, i, left, right, back, &mut front[start..]);
-}
-
-/// Finds the values of a point's cells: what the least chains through the next point's cells cost.
-fn find_values<K: CellCost>(
-    cost: &K,
-    i: usize,
-    left: &[Cell],
-    right: &[Cell],
-    back: &[Option<i128>],
-    here: &mut [Option<i128>],
-)
-    requires step { i < K.step_count cost.now }
-    requires sound { K.is_sound cost.now }
-    requires left { AreCells left.now }
-    requires right { AreCells right.now }
-    requires here { length here.old ≡ length left.now }
-    requires behind { length right.now ≤ length back.now }
-    requires small { (c : ℕ) → IsInRange (value_in back.now c) }
-    ensures { AreLeastThrough (K.low_cost cost.now) i left.now right.now (value_in back.now) (value_in here.new) }
-{
-    for a in 0..left.len() {
-        here[a] = least_through(cost, i, left[a], right, back);
+    for a in 0..cells.of(i) {
+        values[start + a] = least_by_ways(cost, i, cells.cell(i, a), ways);
     }
 }
 
-/// What the least chain from a cell costs, by the next point's cells and what lies beyond them.
+/// What the least chain from a cell costs, by the ways on from the next point.
 ///
-/// The loop writes to no list, so that what doesn't change from cell to cell can be kept at hand.
-fn least_through<K: CellCost>(
-    cost: &K,
-    i: usize,
-    cell: Cell,
-    right: &[Cell],
-    back: &[Option<i128>],
-) -> Option<i128>
+/// The loop writes to no list, and the least sum is a plain number, so that what doesn't change from way to way can be kept at hand.
+fn least_by_ways<K: CellCost>(cost: &K, i: usize, cell: Cell, ways: &[Way]) -> Option<i128>
     requires step { i < K.step_count cost.now }
     requires sound { K.is_sound cost.now }
     requires cell { IsCell cell }
-    requires right { AreCells right.now }
-    requires behind { length right.now ≤ length back.now }
-    requires small { (c : ℕ) → IsInRange (value_in back.now c) }
-    ensures { IsLeastOf (through (K.low_cost cost.now) i cell right.now (value_in back.now)) (length right.now) result }
+    requires ways { AreUsable ways.now }
+    ensures { IsLeastOf (by_way (K.low_cost cost.now) i cell ways.now) (length ways.now) result }
 {
-    let mut least = None;
-    for c in 0..right.len() {
-        least = least_with(least, cost.low(i, cell, right[c]), back[c]);
+    let mut least = NO_SUM;
+    for j in 0..ways.len() {
+        let way = ways[j];
+        least = least_with(least, cost.low(i, cell, way.cell), way.beyond);
     }
-    least
+    sum_found(least)
 }
 
-/// The lesser of a value and what a link and the chain beyond it cost together.
-fn least_with(value: Option<i128>, low: Option<i128>, beyond: Option<i128>) -> Option<i128>
+/// What stands for no sum in the search for the least: a number above every sum.
+const NO_SUM: i128 = i128::MAX;
+
+/// The lesser of the least sum so far and what a link and the chain beyond it cost together.
+fn least_with(least: i128, low: Option<i128>, beyond: i128) -> i128
     requires low { IsSmall low }
-    requires beyond { IsInRange beyond }
-    ensures { result ≡ lesser value (plus low beyond) }
+    requires beyond { IsSmallSum (Some beyond) }
+    ensures { sum_found result ≡ lesser (sum_found least) (plus low (Some beyond)) }
 {
-    match (low, beyond) {
-        (Some(low), Some(beyond)) => least(value, low + beyond),
-        _ => value,
+    match low {
+        Some(low) => least.min(low + beyond),
+        None => least,
     }
 }
 
-/// The lesser of a value and a sum.
-fn least(value: Option<i128>, sum: i128) -> Option<i128>
-    ensures { result ≡ lesser value (Some sum) }
+/// The sum that a number stands for, or none.
+fn sum_found(least: i128) -> Option<i128>
+    ensures { result ≡ sum_found least }
 {
-    match value {
-        Some(value) if value <= sum => Some(value),
-        _ => Some(sum),
-    }
+    if least >= NO_SUM { None } else { Some(least) }
 }

@@ -11,6 +11,7 @@ mod priced;
 mod sums;
 mod table;
 mod timing_prices;
+mod ways;
 
 pub use least::potentials;
 pub use lower_bound::bound;

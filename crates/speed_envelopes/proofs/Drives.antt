@@ -12,7 +12,7 @@ use Rattle.rail_specs.specs.Ranges.{IsGreatestNarrowDrive, NoNarrowDrive, no_nar
 use Rattle.rail_specs.proofs.WorkLemmas.{work_parts}
 use Rattle.drive_rules.specs.Shaped.{IsShaped}
 use Rattle.drive_rules.proofs.DriveLemmas.{top_of_drive}
-use Rattle.speed_envelopes.specs.Bounds.{Setting, is_idle, pulled, least_speed}
+use Rattle.speed_envelopes.specs.Bounds.{Setting, is_idle, traction_asks, least_speed}
 use Rattle.speed_envelopes.specs.Levels.{AreLevels, IsBelow, Covers, NoneBelow}
 use Rattle.speed_envelopes.specs.Capped.{IsCapped, IsAbove, IsCeiling}
 use Rattle.speed_envelopes.specs.Narrowing.{IsNarrowerThan}
@@ -29,21 +29,21 @@ idle_decided n i h = grind (arith, nat_tests)
 idle_from : (n : Narrow) (i : ℕ) → n.idle_from ≤ i → i < n.idle_to → is_idle n i ≡ true
 idle_from n i a b = grind (arith, nat_tests)
 
-pub pulled_from_work : (r : Rules) (n : Narrow) (i v0 v1 : ℕ) → IsShaped r → i < length r.steps → work (step_at r i) v0 v1 ≤ℤ pos (traction_work r i v1) →
-    (n.idle_from ≤ i → i < n.idle_to → work (step_at r i) v0 v1 ≤ℤ pos 0) → pulled r n i v1 ≤ℤ pos (work_down (step_at r i) v0)
-pulled_from_work r n i v0 v1 s l t idle = elim (cases_Bool (is_idle n i)) [
+pub traction_from_work : (r : Rules) (n : Narrow) (i v0 v1 : ℕ) → IsShaped r → i < length r.steps → work (step_at r i) v0 v1 ≤ℤ pos (traction_work r i v1) →
+    (n.idle_from ≤ i → i < n.idle_to → work (step_at r i) v0 v1 ≤ℤ pos 0) → traction_asks r n i v1 ≤ℤ pos (work_down (step_at r i) v0)
+traction_from_work r n i v0 v1 s l t idle = elim (cases_Bool (is_idle n i)) [
   | inl on ↦ (let d = idle_decided n i on in rw on (omega (arith, ints, work_parts (step_at r i) v0 v1 (s.small_drag i l), idle d.0 d.1)))
   | inr off ↦ rw off (omega (arith, ints, work_parts (step_at r i) v0 v1 (s.small_drag i l), t))
 ]
 
-pub work_from_pulled : (r : Rules) (n : Narrow) (i v0 v1 : ℕ) → IsShaped r → i < length r.steps → pulled r n i v1 ≤ℤ pos (work_down (step_at r i) v0) → work (step_at r i) v0 v1 ≤ℤ pos (traction_work r i v1)
-work_from_pulled r n i v0 v1 s l p = elim (cases_Bool (is_idle n i)) [
+pub work_from_traction : (r : Rules) (n : Narrow) (i v0 v1 : ℕ) → IsShaped r → i < length r.steps → traction_asks r n i v1 ≤ℤ pos (work_down (step_at r i) v0) → work (step_at r i) v0 v1 ≤ℤ pos (traction_work r i v1)
+work_from_traction r n i v0 v1 s l p = elim (cases_Bool (is_idle n i)) [
   | inl on ↦ (let q = rw on at p in omega (arith, ints, work_parts (step_at r i) v0 v1 (s.small_drag i l), q))
   | inr off ↦ (let q = rw off at p in omega (arith, ints, work_parts (step_at r i) v0 v1 (s.small_drag i l), q))
 ]
 
-pub idle_from_pulled : (r : Rules) (n : Narrow) (i v0 v1 : ℕ) → IsShaped r → i < length r.steps → pulled r n i v1 ≤ℤ pos (work_down (step_at r i) v0) → n.idle_from ≤ i → i < n.idle_to → work (step_at r i) v0 v1 ≤ℤ pos 0
-idle_from_pulled r n i v0 v1 s l p a b =
+pub idle_from_traction : (r : Rules) (n : Narrow) (i v0 v1 : ℕ) → IsShaped r → i < length r.steps → traction_asks r n i v1 ≤ℤ pos (work_down (step_at r i) v0) → n.idle_from ≤ i → i < n.idle_to → work (step_at r i) v0 v1 ≤ℤ pos 0
+idle_from_traction r n i v0 v1 s l p a b =
     let q = rw (idle_from n i a b) at p in
     omega (arith, ints, work_parts (step_at r i) v0 v1 (s.small_drag i l), q)
 
@@ -117,7 +117,7 @@ levels_of_drive r n d s e = record {
     top = top_of_drive r d s e.drive;
   };
   steps = λ i l. record {
-    exit = pulled_from_work r n i (slice_index d i) (slice_index d (i + 1)) s l (e.drive.steps i l).traction (λ a b. e.idle i a b l);
+    exit = traction_from_work r n i (slice_index d i) (slice_index d (i + 1)) s l (e.drive.steps i l).traction (λ a b. e.idle i a b l);
     entry = omega (arith, ints, work_parts (step_at r i) (slice_index d i) (slice_index d (i + 1)) (s.small_drag i l), (e.drive.steps i l).brake);
   };
 }
@@ -132,12 +132,12 @@ drive_of_levels r n v s c a = record {
     steps = λ i l. record {
       limit = c.limits i l;
       top = (c.top i, c.top (i + 1));
-      traction = work_from_pulled r n i (slice_index v i) (slice_index v (i + 1)) s l (a.steps i l).exit;
+      traction = work_from_traction r n i (slice_index v i) (slice_index v (i + 1)) s l (a.steps i l).exit;
       brake = omega (arith, ints, work_parts (step_at r i) (slice_index v i) (slice_index v (i + 1)) (s.small_drag i l), (a.steps i l).entry);
     };
   };
   cap = c.cap;
-  idle = λ i p q l. idle_from_pulled r n i (slice_index v i) (slice_index v (i + 1)) s l (a.steps i l).exit p q;
+  idle = λ i p q l. idle_from_traction r n i (slice_index v i) (slice_index v (i + 1)) s l (a.steps i l).exit p q;
 }
 
 pub greatest_by : (r : Rules) (n : Narrow) (from v : List ℕ) → IsShaped r → IsCapped r n from → IsAbove r n from → AreLevels (greatest_of r n) v → IsBelow v from → Covers (greatest_of r n) from v → IsGreatestNarrowDrive r n v

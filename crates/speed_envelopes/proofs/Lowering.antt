@@ -124,19 +124,6 @@ tightened s i old mid new first moved h l f a b =
       fewer = λ e. omega (arith, fewer s Entry i mid new moved b e l g, no_more s Exit i old mid first a l f);
     }
 
--- a step that is kept stays as it is
-pub untouched : (s : Setting) (i : ℕ) (levels : List ℕ) → AreFloored s levels → IsLevelStep s levels i → Tightens s i levels levels false
-untouched s i levels f h = record {
-  floored = f;
-  below = λ k. omega arith;
-  covers = λ from c. c;
-  others = λ k m. refl;
-  entry = λ e. refl;
-  kept = λ e. h;
-  no_more = omega arith;
-  fewer = λ e. cc;
-}
-
 -- a step whose levels are as before
 same_step : (s : Setting) (old new : List ℕ) (j : ℕ) → get_or new j 0 ≡ get_or old j 0 → get_or new (j + 1) 0 ≡ get_or old (j + 1) 0 → IsLevelStep s old j → IsLevelStep s new j
 same_step s old new j e f h = rw (e, f) h

@@ -7,7 +7,7 @@ use Rattle.rail_specs.specs.declared.Narrow.{Narrow}
 use Rattle.rail_specs.specs.Rules.{Rules, step_at, traction_work, brake_work}
 use Rattle.rail_specs.proofs.WorkLemmas.{work_up_rises, work_down_rises}
 use Rattle.drive_rules.specs.Shaped.{IsShaped}
-use Rattle.speed_envelopes.specs.Bounds.{Setting, asks, gives, asked, given, pulled, held, is_idle, IsLevelPair, IsStepDriven}
+use Rattle.speed_envelopes.specs.Bounds.{Setting, asks, gives, asked, given, traction_asks, brakes_ask, is_idle, IsLevelPair, IsStepDriven}
 use Rattle.speed_envelopes.specs.declared.bounds.Side.{Side}
 use Rattle.speed_envelopes.specs.declared.bounds.Side.TheVariants.{Greatest, Least}
 use Rattle.speed_envelopes.specs.declared.bounds.End.{End}
@@ -23,12 +23,12 @@ most_of-falls : (b : Bool) (x y : ℕ) → y ≤ x → (if b then 0 else y) ≤ 
 most_of-falls true x y h = omega arith
 most_of-falls false x y h = h
 
-pulled-rises : (r : Rules) (n : Narrow) (i v w : ℕ) → IsShaped r → v ≤ w → pulled r n i v ≤ℤ pulled r n i w
-pulled-rises r n i v w s h =
+traction_asks-rises : (r : Rules) (n : Narrow) (i v w : ℕ) → IsShaped r → v ≤ w → traction_asks r n i v ≤ℤ traction_asks r n i w
+traction_asks-rises r n i v w s h =
     omega (arith, ints, work_up_rises (step_at r i) v w h, most_of-falls (is_idle n i) (traction_work r i v) (traction_work r i w) (traction_work-falls r i v w s h))
 
-held-rises : (r : Rules) (i v w : ℕ) → IsShaped r → v ≤ w → held r i v ≤ℤ held r i w
-held-rises r i v w s h = omega (arith, ints, work_down_rises (step_at r i) v w h, brake_work-falls r i v w s h)
+brakes_ask-rises : (r : Rules) (i v w : ℕ) → IsShaped r → v ≤ w → brakes_ask r i v ≤ℤ brakes_ask r i w
+brakes_ask-rises r i v w s h = omega (arith, ints, work_down_rises (step_at r i) v w h, brake_work-falls r i v w s h)
 
 neg-falls : (a b : ℤ) → a ≤ℤ b → neg_ℤ b ≤ℤ neg_ℤ a
 neg-falls a b h = omega (arith, ints)
@@ -38,8 +38,8 @@ pos-rises a b h = omega (arith, ints)
 
 -- a higher level asks for no less
 pub asked-rises : (side : Side) (end : End) (r : Rules) (n : Narrow) (i a b : ℕ) → IsShaped r → a ≤ b → asked side end r n i a ≤ℤ asked side end r n i b
-asked-rises Greatest Exit r n i a b s h = pulled-rises r n i a b s h
-asked-rises Greatest Entry r n i a b s h = held-rises r i a b s h
+asked-rises Greatest Exit r n i a b s h = traction_asks-rises r n i a b s h
+asked-rises Greatest Entry r n i a b s h = brakes_ask-rises r i a b s h
 asked-rises Least Exit r n i a b s h = neg-falls _ _ (work_up_rises (step_at r i) (r.top - b) (r.top - a) (omega arith))
 asked-rises Least Entry r n i a b s h = neg-falls _ _ (pos-rises _ _ (work_down_rises (step_at r i) (r.top - b) (r.top - a) (omega arith)))
 
@@ -47,8 +47,8 @@ asked-rises Least Entry r n i a b s h = neg-falls _ _ (pos-rises _ _ (work_down_
 pub given-rises : (side : Side) (end : End) (r : Rules) (n : Narrow) (i a b : ℕ) → IsShaped r → a ≤ b → given side end r n i a ≤ℤ given side end r n i b
 given-rises Greatest Exit r n i a b s h = pos-rises _ _ (work_down_rises (step_at r i) a b h)
 given-rises Greatest Entry r n i a b s h = work_up_rises (step_at r i) a b h
-given-rises Least Exit r n i a b s h = neg-falls _ _ (held-rises r i (r.top - b) (r.top - a) s (omega arith))
-given-rises Least Entry r n i a b s h = neg-falls _ _ (pulled-rises r n i (r.top - b) (r.top - a) s (omega arith))
+given-rises Least Exit r n i a b s h = neg-falls _ _ (brakes_ask-rises r i (r.top - b) (r.top - a) s (omega arith))
+given-rises Least Entry r n i a b s h = neg-falls _ _ (traction_asks-rises r n i (r.top - b) (r.top - a) s (omega arith))
 
 pub asks-rises : (s : Setting) (end : End) (i a b : ℕ) → IsShaped s.rules → a ≤ b → asks s end i a ≤ℤ asks s end i b
 asks-rises s end i a b h l = asked-rises s.side end s.rules s.narrow i a b h l

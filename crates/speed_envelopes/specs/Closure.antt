@@ -21,17 +21,19 @@ pub record IsLesserOf (a b c : List ℕ) : Type 0 where
 abbrev pub IsSlower : List ℕ → List ℕ → Type 0
 IsSlower a b = (k : ℕ) → slice_index a k ≤ slice_index b k
 
--- the greater and the lesser of two drives are drives
+-- the greater of two drives is a drive
 abbrev pub GreaterIsDrive : Type 0
 GreaterIsDrive = (r : Rules) (a b c : List ℕ) → IsShaped r → IsDrive r a → IsDrive r b → IsGreaterOf a b c → IsDrive r c
 
+-- the lesser of two drives is a drive
 abbrev pub LesserIsDrive : Type 0
 LesserIsDrive = (r : Rules) (a b c : List ℕ) → IsShaped r → IsDrive r a → IsDrive r b → IsLesserOf a b c → IsDrive r c
 
--- and so under a narrowing
+-- the greater of two drives under a narrowing is one under it
 abbrev pub GreaterIsNarrowDrive : Type 0
 GreaterIsNarrowDrive = (r : Rules) (n : Narrow) (a b c : List ℕ) → IsShaped r → IsNarrowDrive r n a → IsNarrowDrive r n b → IsGreaterOf a b c → IsNarrowDrive r n c
 
+-- the lesser of two drives under a narrowing is one under it
 abbrev pub LesserIsNarrowDrive : Type 0
 LesserIsNarrowDrive = (r : Rules) (n : Narrow) (a b c : List ℕ) → IsShaped r → IsNarrowDrive r n a → IsNarrowDrive r n b → IsLesserOf a b c → IsNarrowDrive r n c
 
@@ -51,12 +53,14 @@ GreatestIsOnTime = (r : Rules) (n : Narrow) (greatest : List ℕ) → IsShaped r
 abbrev pub NarrowingsNest : Type 0
 NarrowingsNest = (r : Rules) (narrow wider : Narrow) (d : List ℕ) → IsNarrowerThan narrow wider → IsNarrowDrive r narrow d → IsNarrowDrive r wider d
 
--- every drive is one under no narrowing, so the greatest is the same, and there is none where there is none
+-- every drive is one under no narrowing
 abbrev pub DriveIsNarrowDrive : Type 0
 DriveIsNarrowDrive = (r : Rules) (d : List ℕ) → IsShaped r → IsDrive r d → IsNarrowDrive r no_narrowing d
 
+-- so the greatest drive is the greatest under no narrowing
 abbrev pub GreatestIsNarrow : Type 0
 GreatestIsNarrow = (r : Rules) (d : List ℕ) → IsShaped r → IsGreatestDrive r d ↔ IsGreatestNarrowDrive r no_narrowing d
 
+-- and there is no drive exactly where there is none under no narrowing
 abbrev pub NoDriveIsNarrow : Type 0
 NoDriveIsNarrow = (r : Rules) → IsShaped r → NoDrive r ↔ NoNarrowDrive r no_narrowing

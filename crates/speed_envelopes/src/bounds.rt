@@ -77,7 +77,7 @@ impl<'a> Model for Bounds<'a> {
 }
 
 impl<'a> Bounds<'a> {
-    ghost use Rattle.speed_envelopes.specs.Bounds.{Setting, asks, gives, floor, pulled, held, is_idle, most_work, IsStepDriven, IsLevelPair};
+    ghost use Rattle.speed_envelopes.specs.Bounds.{Setting, asks, gives, floor, traction_asks, brakes_ask, is_idle, most_work, IsStepDriven, IsLevelPair};
 
     /// The steps of the rules under the narrowing, for the search of this drive.
     pub(crate) fn new(rules: &'a Rules, narrow: &'a Narrow, side: Side) -> Self
@@ -162,20 +162,20 @@ impl<'a> Bounds<'a> {
     }
 
     /// What the exit speed asks of the entry, so that the traction takes the train over step i.
-    fn pulled(&self, i: usize, speed: u16) -> i64
+    fn traction_asks(&self, i: usize, speed: u16) -> i64
         requires step { i < length self.now.rules.steps }
         requires speed { speed ≤ self.now.rules.top }
-        ensures value { result ≡ pulled self.now.rules self.now.narrow i speed }
+        ensures value { result ≡ traction_asks self.now.rules self.now.narrow i speed }
         ensures small { unsigned_abs result ≤ 2 ^ 61 }
     {
         self.up(i, speed) - self.most_work(i, speed)
     }
 
     /// What the entry speed asks of the exit, so that the brakes hold the train over step i.
-    fn held(&self, i: usize, speed: u16) -> i64
+    fn brakes_ask(&self, i: usize, speed: u16) -> i64
         requires step { i < length self.now.rules.steps }
         requires speed { speed ≤ self.now.rules.top }
-        ensures value { result ≡ held self.now.rules i speed }
+        ensures value { result ≡ brakes_ask self.now.rules i speed }
         ensures small { unsigned_abs result ≤ 2 ^ 61 }
     {
         self.down(i, speed) - self.most_braking(i, speed)
@@ -216,8 +216,8 @@ impl<'a> Bounds<'a> {
         let top = self.rules.top();
         match self.side {
             Side::Greatest => match end {
-                End::Exit => self.pulled(i, level),
-                End::Entry => self.held(i, level),
+                End::Exit => self.traction_asks(i, level),
+                End::Entry => self.brakes_ask(i, level),
             },
             Side::Least => match end {
                 End::Exit => -self.up(i, top - level),
@@ -239,8 +239,8 @@ impl<'a> Bounds<'a> {
                 End::Entry => self.up(i, level),
             },
             Side::Least => match end {
-                End::Exit => -self.held(i, top - level),
-                End::Entry => -self.pulled(i, top - level),
+                End::Exit => -self.brakes_ask(i, top - level),
+                End::Entry => -self.traction_asks(i, top - level),
             },
         }
     }

@@ -8,17 +8,17 @@
 
 mod bounds;
 mod closure;
-mod exact;
-mod extent;
+mod find_ranges;
 mod greatest;
 mod least;
 mod settle;
+mod speed_ranges;
 
 pub use closure::{drives_close, faster_is_on_time, narrowings_nest};
-pub use exact::ranges;
-pub use extent::Ranges;
+pub use find_ranges::ranges;
 pub use greatest::{greatest_drive, greatest_from, greatest_under};
 pub use rail_specs::Narrow;
+pub use speed_ranges::Ranges;
 
 #[cfg(test)]
 mod tests;

@@ -2,9 +2,9 @@
 ghost use Rattle.std.specs.Prelude.{◌≡◌, IfSome, IfNone, IfOk};
 ghost use Rattle.rail_specs.specs.Ranges.{AreRanges, NoNarrowDrive};
 
-use crate::extent::Ranges;
 use crate::greatest::greatest_under;
 use crate::least::least;
+use crate::speed_ranges::Ranges;
 use drive_rules::Rules;
 use rail_specs::Narrow;
 use std::alloc::{AllocError, Global};

@@ -1,0 +1,36 @@
+-- Ways on: the cells of a point from which there is a chain to the last point, each with what the least such chain costs.
+use Rattle.std.specs.Prelude.{ℕ, ◌<◌, ◌≡◌, ℤ, pos, List, [], ◌∷◌, ◌++◌, Option, Some, None, IfSome, length, slice_index_or}
+use Rattle.rail_specs.specs.declared.Cell.{Cell}
+use Rattle.rail_specs.specs.Cells.{no_cell, IsCell}
+use Rattle.rail_specs.specs.Chains.{plus}
+use Rattle.potential_table.specs.Filling.{IsSmallSum}
+use Rattle.potential_table.specs.declared.ways.Way.{Way}
+
+-- what stands past the last way
+abbrev pub no_way : Way
+no_way = record { cell = no_cell; beyond = pos 0 }
+
+-- way j of these
+abbrev pub way_at : List Way → ℕ → Way
+way_at ways j = slice_index_or ways j no_way
+
+-- one more way, from a cell where there is a value
+abbrev pub ways_with : List Way → Cell → Option ℤ → List Way
+ways_with ways cell None = ways
+ways_with ways cell (Some beyond) = ways ++ record { cell = cell; beyond = beyond } ∷ []
+
+-- the ways on from the first m of these cells: each is from one of them and costs its value, and each of them that has a value is
+-- where one begins
+pub record AreWays (ways : List Way) (cells : List Cell) (value : ℕ → Option ℤ) (m : ℕ) : Type 0 where
+  pub from : (j : ℕ) → j < length ways
+      → (c : ℕ) × (c < m) × (slice_index_or cells c no_cell ≡ (way_at ways j).cell) × (value c ≡ Some (way_at ways j).beyond)
+  pub all : (c : ℕ) → c < m
+      → IfSome (value c) (λ p. (j : ℕ) × (j < length ways) × (way_at ways j ≡ record { cell = slice_index_or cells c no_cell; beyond = p }))
+
+-- each way begins at an interval of speeds, and its cost is small
+abbrev pub AreUsable : List Way → Type 0
+AreUsable ways = (j : ℕ) → j < length ways → IsCell (way_at ways j).cell × IsSmallSum (Some (way_at ways j).beyond)
+
+-- what the least chain costs that goes from cell a by way j
+abbrev pub by_way : (ℕ → Cell → Cell → Option ℤ) → ℕ → Cell → List Way → ℕ → Option ℤ
+by_way low i a ways j = plus (low i a (way_at ways j).cell) (Some (way_at ways j).beyond)
