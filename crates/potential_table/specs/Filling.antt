@@ -2,7 +2,7 @@
 use Rattle.std.specs.Prelude.{ℕ, ◌+◌, ◌*◌, ◌^◌, ◌<◌, ◌≤◌, ◌≡◌, ◌-◌, ℤ, pos, cond, int_le, List, Option, Some, None, IfSome, length, slice_index, slice_index_or}
 use Rattle.std.specs.Int.RustNames.{unsigned_abs}
 use Rattle.rail_specs.specs.declared.Cell.{Cell}
-use Rattle.rail_specs.specs.Cells.{cells_of, cell_at, no_cell}
+use Rattle.rail_specs.specs.Cells.{cells_of, cell_at, no_cell, IsCell}
 use Rattle.rail_specs.specs.Chains.{plus, IsAtMost, IsLeastChain}
 
 -- the lesser of two numbers; none stands above every number
@@ -31,6 +31,10 @@ value_in values j = slice_index_or values j None
 -- the value of cell c of the point whose values begin at a place of a list
 abbrev pub value_from : List (Option ℤ) → ℕ → ℕ → Option ℤ
 value_from values start c = slice_index_or values (start + c) None
+
+-- each of these is an interval of speeds
+abbrev pub AreCells : List Cell → Type 0
+AreCells cs = (c : ℕ) → c < length cs → IsCell (slice_index_or cs c no_cell)
 
 -- a number is within 4,000 times 2^86, as the sum of so many small costs is, where there is one
 abbrev pub IsSmallSum : Option ℤ → Type 0

@@ -3,7 +3,7 @@ use Rattle.std.specs.Prelude.{ℕ, ◌<◌, ◌≡◌, ℤ, pos, List, [], ◌�
 use Rattle.rail_specs.specs.declared.Cell.{Cell}
 use Rattle.rail_specs.specs.Cells.{no_cell, IsCell}
 use Rattle.rail_specs.specs.Chains.{plus}
-use Rattle.potential_table.specs.Filling.{IsSmallSum}
+use Rattle.potential_table.specs.Filling.{IsSmallSum, IsLeastOf}
 use Rattle.potential_table.specs.declared.ways.Way.{Way}
 
 -- what stands past the last way
@@ -34,3 +34,8 @@ AreUsable ways = (j : ℕ) → j < length ways → IsCell (way_at ways j).cell �
 -- what the least chain costs that goes from cell a by way j
 abbrev pub by_way : (ℕ → Cell → Cell → Option ℤ) → ℕ → Cell → List Way → ℕ → Option ℤ
 by_way low i a ways j = plus (low i a (way_at ways j).cell) (Some (way_at ways j).beyond)
+
+-- each left cell's value is the least over all ways
+abbrev pub AreLeastByWays : (ℕ → Cell → Cell → Option ℤ) → ℕ → List Cell → List Way → (ℕ → Option ℤ) → Type 0
+AreLeastByWays low i left ways value =
+    (a : ℕ) → a < length left → IsLeastOf (by_way low i (slice_index_or left a no_cell) ways) (length ways) (value a)

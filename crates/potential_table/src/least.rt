@@ -1,9 +1,9 @@
 //! Least chains of cells, by a table from the last point backwards.
 ghost use Rattle.std.specs.Prelude.{◌≡◌, ℕ, pos, ◌+◌, ◌<◌, ◌≤◌, ◌++◌, length, replicate, Some, None, IfOk, OnOk, slice_index};
-ghost use Rattle.rail_specs.specs.Cells.{cells_of, cell_at, IsCell};
+ghost use Rattle.rail_specs.specs.Cells.{cells_of, IsCell};
 ghost use Rattle.rail_specs.specs.Chains.{plus, IsSmall, ArePotentials, WeakDuality};
-ghost use Rattle.potential_table.specs.Filling.{lesser, sum_found, value_in, value_from, IsSmallSum, IsLeastOf, AreStarts, IsFilled};
-ghost use Rattle.potential_table.specs.Ways.{by_way, AreUsable};
+ghost use Rattle.potential_table.specs.Filling.{lesser, sum_found, value_in, value_from, AreCells, IsSmallSum, IsLeastOf, AreStarts, IsFilled};
+ghost use Rattle.potential_table.specs.Ways.{by_way, AreLeastByWays, AreUsable};
 
 use crate::table::Potentials;
 use crate::ways::{Way, read_ways};
@@ -89,34 +89,51 @@ fn fill<K: CellCost>(
     ensures { OnOk result (IsFilled (K.low_cost cost.now) cells.now starts.now values.new 0) }
 {
     cells.known();
+    let mut here = Vec::new(alloc);
     let mut ways = Vec::new(alloc);
+    read_cells(cells, cost.steps(), &mut here)?;
+    read_ways(here.as_slice(), values, starts[cost.steps()], &mut ways)?;
     for i in (0..cost.steps()).rev() {
-        read_ways(cells, i + 1, values, starts[i + 1], &mut ways)?;
-        fill_point(cells, cost, i, ways.as_slice(), values, starts[i]);
+        read_cells(cells, i, &mut here)?;
+        fill_point(cost, i, here.as_slice(), ways.as_slice(), values, starts[i]);
+        read_ways(here.as_slice(), values, starts[i], &mut ways)?;
+    }
+    Ok(())
+}
+
+/// Reads the cells of a point.
+fn read_cells(cells: &Cells, point: usize, list: &mut Vec<Cell>) -> Result<(), AllocError>
+    requires { point < length cells.now }
+    ensures value { OnOk result (list.new.items ≡ cells_of cells.now point) }
+    ensures cells { OnOk result (AreCells list.new.items) }
+{
+    list.clear();
+    for c in 0..cells.of(point) {
+        list.push(cells.cell(point, c))?;
     }
     Ok(())
 }
 
 /// Fills in the values of a point's cells, which begin at a place of the list, by the ways on from the next point.
 fn fill_point<K: CellCost>(
-    cells: &Cells,
     cost: &K,
     i: usize,
+    left: &[Cell],
     ways: &[Way],
     values: &mut [Option<i128>],
     start: usize,
 )
     requires step { i < K.step_count cost.now }
     requires sound { K.is_sound cost.now }
-    requires point { i < length cells.now }
+    requires left { AreCells left.now }
     requires ways { AreUsable ways.now }
-    requires inside { start + length (cells_of cells.now i) ≤ length values.old }
-    ensures filled { (a : ℕ) → a < length (cells_of cells.now i) → IsLeastOf (by_way (K.low_cost cost.now) i (cell_at cells.now i a) ways.now) (length ways.now) (value_from values.new start a) }
+    requires inside { start + length left.now ≤ length values.old }
+    ensures filled { AreLeastByWays (K.low_cost cost.now) i left.now ways.now (value_from values.new start) }
     ensures before { (j : ℕ) → j < start → value_in values.new j ≡ value_in values.old j }
-    ensures behind { (j : ℕ) → start + length (cells_of cells.now i) ≤ j → value_in values.new j ≡ value_in values.old j }
+    ensures behind { (j : ℕ) → start + length left.now ≤ j → value_in values.new j ≡ value_in values.old j }
 {
-    for a in 0..cells.of(i) {
-        values[start + a] = least_by_ways(cost, i, cells.cell(i, a), ways);
+    for a in 0..left.len() {
+        values[start + a] = least_by_ways(cost, i, left[a], ways);
     }
 }
 

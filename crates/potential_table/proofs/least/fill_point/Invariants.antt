@@ -1,5 +1,5 @@
-use Rattle.std.proofs.Common.{ℕ, ◌≡◌, ◌+◌, ◌<◌, ◌≤◌, length}
-use Rattle.rail_specs.specs.Cells.{cell_at}
+use Rattle.std.proofs.Common.{ℕ, ◌≡◌, ◌+◌, ◌<◌, ◌≤◌, length, get_or}
+use Rattle.rail_specs.specs.Cells.{no_cell}
 use Rattle.potential_table.specs.Filling.{value_in, value_from, IsLeastOf}
 use Rattle.potential_table.specs.Ways.{by_way}
 use Rattle.potential_table.proofs.least.fill_point.Given as goal
@@ -8,7 +8,7 @@ use Rattle.potential_table.proofs.least.fill_point.Given as goal
 abbrev pub invariant-loop-a : goal.invariant-loop-a
 invariant-loop-a g l = record {
   filled : (a : ℕ) → a < l.a
-      → IsLeastOf (by_way (g.K.CellCost.low_cost l.cost) l.i (cell_at l.cells l.i a) l.ways) (length l.ways) (value_from l.values l.start a);
+      → IsLeastOf (by_way (g.K.CellCost.low_cost l.cost) l.i (get_or l.left a no_cell) l.ways) (length l.ways) (value_from l.values l.start a);
   before : (j : ℕ) → j < l.start → value_in l.values j ≡ value_in l.fn.values j;
   behind : (j : ℕ) → l.start + l.a ≤ j → value_in l.values j ≡ value_in l.fn.values j;
 }
