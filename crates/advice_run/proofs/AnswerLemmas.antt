@@ -5,8 +5,8 @@ use Rattle.std.proofs.lemmas.Int.{ints}
 use Rattle.rail_specs.specs.Rules.{Rules, IsGreatestDrive, timing_at, work_at}
 use Rattle.rail_specs.specs.Times.{IsOnTimeUp, NoneOnTime, IsFirstLate, arrival_up}
 use Rattle.rail_specs.specs.Cost.{traction_cost, int_sum_below, cost_of, IsBound, GapMet}
-use Rattle.rail_specs.specs.Report.{late_text, report_text}
-use Rattle.rail_specs.specs.Plan.{IsPlanAnswer}
+use Rattle.drive_report.specs.Report.{late_text, report_text}
+use Rattle.advice_run.specs.Plan.{IsPlanAnswer}
 
 -- nothing comes back
 not_negative : (z : ℤ) → pos 0 ≤ℤ traction_cost z
@@ -25,7 +25,7 @@ nothing_is_bound r speeds d t = sum_not_negative (work_at r speeds) (length r.st
 -- the greatest drive is on time
 pub drive_answer : (r : Rules) (tolerance status : ℕ) (text speeds : List ℕ) (energy : ℤ) (met : Bool) → IsGreatestDrive r speeds → IsOnTimeUp r speeds
     → energy ≡ cost_of traction_cost r speeds → (IsTrue met ↔ GapMet energy (pos 0) tolerance) → status ≡ (if met then 0 else 1)
-    → text ≡ report_text r speeds energy (pos 0) met → IsPlanAnswer r tolerance status text
+    → text ≡ report_text r speeds energy (pos 0) met → IsPlanAnswer traction_cost r tolerance status text
 drive_answer r tolerance status text speeds energy met g t e m s x = inr (inr (
   speeds,
   (
@@ -35,7 +35,7 @@ drive_answer r tolerance status text speeds energy met g t e m s x = inr (inr (
       (
         met,
         record {
-          greatest = g;
+          drive = g.drive;
           on_time = t;
           costs = e;
           bounds = nothing_is_bound r;
@@ -50,7 +50,7 @@ drive_answer r tolerance status text speeds energy met g t e m s x = inr (inr (
 
 -- no drive is on time
 pub late_answer : (r : Rules) (tolerance : ℕ) (text speeds : List ℕ) (j : ℕ) → IsGreatestDrive r speeds → NoneOnTime r → IsFirstLate r speeds j
-    → text ≡ late_text r j (arrival_up r speeds (timing_at r j).point) → IsPlanAnswer r tolerance 5 text
+    → text ≡ late_text r j (arrival_up r speeds (timing_at r j).point) → IsPlanAnswer traction_cost r tolerance 5 text
 late_answer r tolerance text speeds j g n f x = inr (inl (
   speeds,
   (

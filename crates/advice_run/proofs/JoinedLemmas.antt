@@ -5,13 +5,14 @@ use Rattle.drive_rules.specs.declared.joined.fault.RulesFault.{RulesFault}
 use Rattle.drive_rules.specs.declared.joined.fault.RulesFault.TheVariants.{NoMemory}
 use Rattle.drive_rules.specs.Joined.{Joins, Refuses, first_place}
 use Rattle.rail_specs.specs.Rules.{Rules}
-use Rattle.rail_specs.specs.Plan.{IsPlanAnswer}
+use Rattle.rail_specs.specs.Cost.{traction_cost}
+use Rattle.advice_run.specs.Plan.{IsPlanAnswer}
 use Rattle.line_file.specs.declared.line.Line.{Line}
 use Rattle.line_file.specs.declared.service.Service.{Service}
 use Rattle.line_file.specs.ServiceText.{service_of}
 use Rattle.train_file.specs.declared.train.Train.{Train}
 use Rattle.train_file.specs.TrainText.{train_of}
-use Rattle.rail_specs.specs.Faults.{Told}
+use Rattle.edge_io.specs.Faults.{Told}
 use Rattle.advice_run.specs.Outcome.{AfterLine, AfterTrain, IsJoinedAnswer, IsRefusal, fresh_setup}
 use Rattle.advice_run.specs.FaultWords.{rules_fault_words, service_fault_words, train_fault_words}
 use Rattle.advice_run.proofs.StageLemmas.{carried}
@@ -39,7 +40,7 @@ fresh_is s service step a b c d e = λ i. record { step = a i; place = b i; spee
 
 -- the answer to joined rules
 pub joined_plan : (line : Line) (train : Train) (service : Service) (step tolerance : ℕ) (s : Setup) (r : Rules) (status : ℕ) (text : List ℕ) → s ≡ fresh_setup service step
-    → Joins line train service s r → IsPlanAnswer r tolerance status text → IsJoinedAnswer line train step tolerance service status text
+    → Joins line train service s r → IsPlanAnswer traction_cost r tolerance status text → IsJoinedAnswer line train step tolerance service status text
 joined_plan line train service step tolerance s r status text e j p = inl (r, (subst (λ (q : Setup). Joins line train service q r) e j, p))
 
 -- the refusal of joined rules

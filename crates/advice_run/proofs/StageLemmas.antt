@@ -4,7 +4,7 @@ use Rattle.std.specs.Prelude.{Result, Ok, Err, MatchBool, MatchResult, Vec, nat_
 use Rattle.std.specs.declared.alloc.Global.{Global}
 use Rattle.std.proofs.lemmas.Bool.{le-ltb}
 use Rattle.std.proofs.lemmas.List.{take_all, length-take}
-use Rattle.rail_specs.specs.Faults.{Rose, Told, Fetches}
+use Rattle.edge_io.specs.Faults.{Rose, Told, Fetches}
 use Rattle.advice_run.specs.Outcome.{IsRefusal, MayHold, MayRead, Says, most_bytes}
 use Rattle.advice_run.specs.Stage.{IsMeasured, IsFetched}
 use Rattle.advice_run.specs.declared.stage.Stage.{Stage}

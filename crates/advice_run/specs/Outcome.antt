@@ -11,10 +11,11 @@ use Rattle.drive_rules.specs.declared.joined.fault.RulesFault.{RulesFault}
 use Rattle.drive_rules.specs.declared.joined.fault.RulesFault.TheVariants as rules
 use Rattle.drive_rules.specs.Joined.{Joins, Refuses, first_place}
 use Rattle.rail_specs.specs.Rules.{Rules}
-use Rattle.rail_specs.specs.Faults.{Rose, Told, Appends}
-use Rattle.rail_specs.specs.Report.{line as text_line}
-use Rattle.rail_specs.specs.Route.{rules_of_text}
-use Rattle.rail_specs.specs.Plan.{IsPlanAnswer}
+use Rattle.edge_io.specs.Faults.{Rose, Told, Appends}
+use Rattle.rail_base.specs.Texts.{line as text_line}
+use Rattle.drive_rules.specs.Route.{rules_of_text}
+use Rattle.rail_specs.specs.Cost.{traction_cost}
+use Rattle.advice_run.specs.Plan.{IsPlanAnswer}
 use Rattle.advice_run.specs.Words.{Command, Usage, Route, Plan}
 use Rattle.advice_run.specs.FaultWords.{route_fault_words, line_fault_words, service_fault_words, train_fault_words, rules_fault_words}
 
@@ -84,7 +85,7 @@ pub record IsRulesRefusal (line : Line) (train : Train) (service : Service) (set
 -- the refusal of these
 abbrev pub IsJoinedAnswer : Line → Train → ℕ → ℕ → Service → ℕ → List ℕ → Type 0
 IsJoinedAnswer line train step tolerance service status text =
-    ((r : Rules) × (Joins line train service (fresh_setup service step) r × IsPlanAnswer r tolerance status text))
+    ((r : Rules) × (Joins line train service (fresh_setup service step) r × IsPlanAnswer traction_cost r tolerance status text))
     ⊎ IsRulesRefusal line train service (fresh_setup service step) status text
 
 -- the answer once the line and the train are read: over the service's file
@@ -103,7 +104,7 @@ AfterLine train service step tolerance told before now line status text =
 abbrev pub MayWrite : Command → (List ℕ → Told) → (List ℕ → ℕ) → (List ℕ → ℕ) → ℕ → List ℕ → Type 0
 MayWrite Usage told before now status text = (status ≡ 2) × (text ≡ usage_text)
 MayWrite (Route name tolerance) told before now status text =
-    MayRead (codes "route") name told before now rules_of_text route_fault_words (λ rules. IsPlanAnswer rules tolerance) status text
+    MayRead (codes "route") name told before now rules_of_text route_fault_words (λ rules. IsPlanAnswer traction_cost rules tolerance) status text
 MayWrite (Plan line train service step tolerance) told before now status text =
     MayRead (codes "line") line told before now line_of line_fault_words (λ said. AfterLine train service step tolerance told before now said) status text
 

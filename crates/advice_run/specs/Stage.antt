@@ -1,7 +1,7 @@
 -- What comes of one file within a run: what it says, or the answer that ends the run.
 use Rattle.std.specs.Prelude.{ℕ, ◌≡◌, ◌≤◌, ◌<◌, List, Result, Ok, Err, codes, length, Vec, ◌⊎◌}
 use Rattle.std.specs.declared.alloc.Global.{Global}
-use Rattle.rail_specs.specs.Faults.{Told}
+use Rattle.edge_io.specs.Faults.{Told}
 use Rattle.advice_run.specs.Outcome.{IsRefusal, IsReadFault, MayHold, MayRead, Says, most_bytes}
 use Rattle.advice_run.specs.declared.stage.Stage.{Stage}
 use Rattle.advice_run.specs.declared.stage.Stage.TheVariants.{Read, Ends}

@@ -2,7 +2,7 @@
 -- The first word is the command. Each command is one simple command of clap, which reads all the words.
 use Rattle.std.specs.Prelude.{ℕ, ◌&&◌, List, [], ◌∷◌, Option, Some, None, codes, if◌then◌else◌, unwrap_or, option_and_then, nat_le, true}
 use Rattle.std.specs.Str.{bytes_eq}
-use Rattle.rail_specs.specs.Numbers.{digits_number}
+use Rattle.rail_base.specs.Numbers.{digits_number}
 use Rattle.clap.specs.Words.{App, Row, Rule, Text, fault_of, first_of, matches_of, new_app, new_rule, with_rule}
 use Rattle.clap.specs.Walk.{is_empty}
 use Rattle.advice_run.specs.declared.command.FirstWord.{FirstWord}

@@ -1,7 +1,7 @@
 //! The words of faults.
 
 ghost use Rattle.std.specs.Prelude.{◌≡◌, ◌≢◌, ◌++◌, ◌∷◌, ℕ, List, pos, IfOk, OnOk};
-ghost use Rattle.rail_specs.specs.Report.{spaced};
+ghost use Rattle.rail_base.specs.Texts.{spaced};
 ghost use Rattle.advice_run.specs.FaultWords.{key_name};
 
 use drive_rules::{RouteFault, RulesFault};
@@ -69,7 +69,7 @@ fn keyed_row(alloc: Global, word: &[u8], key: Key, row: u32) -> Result<Vec<u8>, 
 }
 
 impl Fault for RouteFault {
-    ghost use Rattle.rail_specs.specs.declared.RouteFault.TheVariants.{NoMemory};
+    ghost use Rattle.drive_rules.specs.declared.route.fault.RouteFault.TheVariants.{NoMemory};
     ghost use Rattle.advice_run.specs.FaultWords.{route_fault_words};
 
     ghost no_memory = { NoMemory };

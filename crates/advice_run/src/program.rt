@@ -1,7 +1,7 @@
 //! The program's top call.
 
 ghost use Rattle.std.specs.Prelude.{◌≡◌, ◌≢◌, ℕ, List};
-ghost use Rattle.rail_specs.specs.Faults.{Rose};
+ghost use Rattle.edge_io.specs.Faults.{Rose};
 ghost use Rattle.advice_run.specs.Words.{command_of};
 ghost use Rattle.advice_run.specs.Outcome.{Wrote, WroteFront, Names};
 

@@ -3,7 +3,8 @@
 ghost use Rattle.std.specs.Prelude.{◌≡◌, ◌≤◌, ℕ, List, slice_index, IfOk};
 ghost use Rattle.rail_specs.specs.Rules.{IsDrive, IsGreatestDrive, timing_at};
 ghost use Rattle.rail_specs.specs.Times.{IsOnTimeUp, IsFirstLate, arrival_up};
-ghost use Rattle.rail_specs.specs.Plan.{IsPlanAnswer};
+ghost use Rattle.rail_specs.specs.Cost.{traction_cost};
+ghost use Rattle.advice_run.specs.Plan.{IsPlanAnswer};
 
 use crate::answer::Answer;
 use crate::status;
@@ -16,7 +17,7 @@ use std::alloc::{AllocError, Global};
 /// The answer to the rules of a run, at a tolerance in per mille of the energy: the greatest drive where it is on time.
 pub fn rules_answer(alloc: Global, rules: &Rules, tolerance: u32) -> Result<Answer, AllocError>
     requires { tolerance ≤ 1000 }
-    ensures { IfOk result (λ a. IsPlanAnswer rules.now tolerance a.status a.text.items) }
+    ensures { IfOk result (λ a. IsPlanAnswer traction_cost rules.now tolerance a.status a.text.items) }
 {
     let Some(drive) = greatest_drive(alloc, rules)? else {
         let text = no_drive_text(alloc)?;
@@ -43,7 +44,7 @@ fn late_answer(
     requires late { IsFirstLate rules.now speeds.now at.timing }
     requires slower { (d : List ℕ) → IsDrive rules.now d → ((k : ℕ) → slice_index d k ≤ slice_index speeds.now k) → IsOnTimeUp rules.now d → ⊥ }
     requires arrival { at.arrival ≡ arrival_up rules.now speeds.now (timing_at rules.now at.timing).point }
-    ensures { IfOk result (λ a. IsPlanAnswer rules.now tolerance a.status a.text.items) }
+    ensures { IfOk result (λ a. IsPlanAnswer traction_cost rules.now tolerance a.status a.text.items) }
 {
     // Only the contract speaks of these two: the answer is about this drive, and the same at every tolerance.
     let _ = speeds;
@@ -65,7 +66,7 @@ fn drive_answer(
     requires tolerance { tolerance ≤ 1000 }
     requires greatest { IsGreatestDrive rules.now speeds.now }
     requires on_time { IsOnTimeUp rules.now speeds.now }
-    ensures { IfOk result (λ a. IsPlanAnswer rules.now tolerance a.status a.text.items) }
+    ensures { IfOk result (λ a. IsPlanAnswer traction_cost rules.now tolerance a.status a.text.items) }
 {
     let energy = match rules.judge(speeds, &Traction) {
         Judged::Kept { cost } => cost,

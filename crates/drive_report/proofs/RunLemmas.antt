@@ -3,8 +3,8 @@ use Rattle.std.proofs.Common.{ℕ, ◌≡◌, ◌<◌, ◌≤◌, ◌+◌, ◌++
 use Rattle.std.specs.Prelude.{if◌then◌else◌, ◌||◌, not, ◌==◌}
 use Rattle.std.proofs.lemmas.Bool.{ne_eqb}
 use Rattle.rail_specs.specs.Rules.{Rules}
-use Rattle.rail_specs.specs.Phase.{phase_at, is_same}
-use Rattle.rail_specs.specs.Report.{run_start, ends_run, phase_line, phase_lines}
+use Rattle.drive_report.specs.Phase.{phase_at, is_same}
+use Rattle.drive_report.specs.Report.{run_start, ends_run, phase_line, phase_lines}
 
 -- the first step of a run that goes on, or of the next one
 goes_on : (same last : Bool) (start from next i : ℕ) → last ≡ false → next ≡ (if last || not same then i else from) → start ≡ from → (if same then start else i) ≡ next

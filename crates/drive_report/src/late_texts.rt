@@ -1,10 +1,11 @@
 //! The texts where no drive is on time.
 
 ghost use Rattle.std.specs.Prelude.{◌≡◌, ℕ, ◌<◌, ◌++◌, length, IfOk, OnOk};
-ghost use Rattle.rail_specs.specs.Report.{no_drive_text, late_line, late_text};
+ghost use Rattle.drive_report.specs.Report.{no_drive_text, late_line, late_text};
 
-use crate::lines::{put_head, put_line, put_spaced};
+use crate::lines::put_head;
 use drive_rules::Rules;
+use rail_base::{put_line, put_spaced};
 use std::alloc::{AllocError, Global};
 
 /// The text where there is no drive.

@@ -1,7 +1,7 @@
 //! The texts of an answer to a plan, and the phases of a drive.
 //!
 //! Each text is whole when it is handed out: the caller puts it in one piece. The definitions of the texts stand in
-//! `rail_specs`, `specs/Report.antt`, and those of the phases in `specs/Phase.antt`.
+//! `specs/Report.antt`, and those of the phases in `specs/Phase.antt`.
 #![tactic(auto)]
 
 mod late_texts;
@@ -10,6 +10,5 @@ mod phases;
 mod reports;
 
 pub use late_texts::{late_text, no_drive_text};
-pub use phases::phase;
-pub use rail_specs::Phase;
+pub use phases::{Phase, phase};
 pub use reports::report;

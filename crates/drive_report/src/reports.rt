@@ -3,17 +3,18 @@
 ghost use Rattle.std.specs.Prelude.{◌≡◌, ◌++◌, ◌∷◌, ℕ, ◌+◌, ◌<◌, ◌≤◌, ◌==◌, ◌^◌, List, length, pos, IfOk, OnOk, IsTrue, ◌↔◌, if◌then◌else◌, [], slice_index};
 ghost use Rattle.std.specs.List.{flat_map};
 ghost use Rattle.rail_specs.specs.Rules.{IsDrive};
-ghost use Rattle.rail_specs.specs.Phase.{phase_at, phase_name};
-ghost use Rattle.rail_specs.specs.Report.{gap_line, speeds_line, kilojoules_of, ends_run, run_start, phase_line, phase_lines, time_line, energy_lines, report_text};
+ghost use Rattle.drive_report.specs.Phase.{phase_at, phase_name};
+ghost use Rattle.drive_report.specs.Report.{gap_line, speeds_line, kilojoules_of, ends_run, run_start, phase_line, phase_lines, time_line, energy_lines, report_text};
 
-use crate::lines::{put_head, put_line, put_number_line, put_spaced, put_word};
-use crate::phases::phase;
+use crate::lines::put_head;
+use crate::phases::{Phase, phase};
 use drive_rules::Rules;
-use rail_specs::{Phase, Timing};
+use rail_base::{put_line, put_number_line, put_spaced, put_word};
+use rail_specs::Timing;
 use std::alloc::{AllocError, Global};
 
 /// Appends the line of speeds, in cm/s, one for each point.
-#[tactic(auto, unfolding(rail_specs::specs::Report::speeds_line))]
+#[tactic(auto, unfolding(crate::specs::Report::speeds_line))]
 fn put_speeds(alloc: Global, out: &mut Vec<u8>, speeds: &[u16]) -> Result<(), AllocError>
     ensures { OnOk result (out.new.items ≡ out.old.items ++ speeds_line speeds.now) }
 {
@@ -50,7 +51,7 @@ fn phase_name(phase: Phase) -> &'static [u8]
 }
 
 /// The phase of step i of a drive.
-#[tactic(auto, unfolding(rail_specs::specs::Phase::phase_at))]
+#[tactic(auto, unfolding(crate::specs::Phase::phase_at))]
 fn phase_of_step(rules: &Rules, speeds: &[u16], i: usize) -> Phase
     requires drive { IsDrive rules.now speeds.now }
     requires step { i < length rules.now.steps }
@@ -61,7 +62,7 @@ fn phase_of_step(rules: &Rules, speeds: &[u16], i: usize) -> Phase
 }
 
 /// Whether step i is the last of a run of steps of one phase.
-#[tactic(auto, unfolding(rail_specs::specs::Report::ends_run))]
+#[tactic(auto, unfolding(crate::specs::Report::ends_run))]
 fn ends_run(rules: &Rules, speeds: &[u16], i: usize) -> bool
     requires drive { IsDrive rules.now speeds.now }
     requires step { i < length rules.now.steps }
@@ -85,7 +86,7 @@ fn put_phase_name(
 }
 
 /// Appends the line of the run of steps of one phase that begins with step `from` and ends with step i.
-#[tactic(auto, unfolding(rail_specs::specs::Report::phase_line))]
+#[tactic(auto, unfolding(crate::specs::Report::phase_line))]
 fn put_phase(
     alloc: Global,
     out: &mut Vec<u8>,
@@ -150,7 +151,7 @@ fn put_phases(
 }
 
 /// Appends the line of a timing point.
-#[tactic(auto, unfolding(rail_specs::specs::Report::time_line))]
+#[tactic(auto, unfolding(crate::specs::Report::time_line))]
 fn put_time(
     alloc: Global,
     out: &mut Vec<u8>,
@@ -188,7 +189,7 @@ fn put_times(
 }
 
 /// Appends the line on the gap.
-#[tactic(auto, unfolding(rail_specs::specs::Report::gap_line))]
+#[tactic(auto, unfolding(crate::specs::Report::gap_line))]
 fn put_gap(out: &mut Vec<u8>, met: bool) -> Result<(), AllocError>
     ensures { OnOk result (out.new.items ≡ out.old.items ++ gap_line met) }
 {

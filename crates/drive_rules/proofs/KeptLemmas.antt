@@ -10,7 +10,7 @@ use Rattle.rail_specs.specs.Rules.{Rules, IsDrive, IsStepKept, IsPassed, no_timi
 use Rattle.rail_specs.specs.Step.{work}
 use Rattle.rail_specs.specs.Times.{IsFirstLate, IsOnTimeUp, arrival_up}
 use Rattle.drive_rules.specs.Shaped.{IsShaped}
-use Rattle.rail_specs.specs.First.{first_below}
+use Rattle.rail_base.specs.First.{first_below}
 use Rattle.drive_rules.specs.Verdict.{point_fault, force_rule, step_rule, step_fault, timing_fault, verdict, Moves, IsKept, Judges}
 use Rattle.drive_rules.proofs.VerdictLemmas.{first_below-found, option_or-none}
 use Rattle.drive_rules.specs.declared.judge.Rule.{Rule}

@@ -1,7 +1,7 @@
 -- How fields are read as numbers, one by one.
 use Rattle.std.proofs.Common.{ℕ, ◌≡◌, ◌+◌, List, ◌++◌, Option, Some, None, length, take, refl, Bool, true, false, if◌then◌else◌}
 use Rattle.std.specs.Prelude.{ℤ}
-use Rattle.rail_specs.specs.Lines.{fields_of, numbers_of}
+use Rattle.rail_base.specs.Lines.{fields_of, numbers_of}
 
 -- numbers before others
 abbrev pub before : List ℤ → Option (List ℤ) → Option (List ℤ)

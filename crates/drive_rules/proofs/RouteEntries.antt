@@ -3,12 +3,12 @@ use Rattle.std.proofs.Common.{ℕ, ◌≡◌, ◌≤◌, ◌*◌, Bool, true, fa
 use Rattle.std.specs.Prelude.{codes}
 use Rattle.std.specs.Int.RustNames.{unsigned_abs}
 use Rattle.std.proofs.lemmas.Bool.{cases_lt, lt-ltb, le-ltb}
-use Rattle.rail_specs.specs.declared.RouteFault.TheVariants.{Range}
+use Rattle.drive_rules.specs.declared.route.fault.RouteFault.TheVariants.{Range}
 use Rattle.rail_specs.specs.declared.StepNumbers.{StepNumbers}
 use Rattle.rail_specs.specs.declared.TrainNumbers.{TrainNumbers}
-use Rattle.rail_specs.specs.Lines.{number, numbers_after}
-use Rattle.rail_specs.specs.Route.{is_light_step, step_fault, step_of, step_on, unless}
-use Rattle.rail_specs.specs.Numbers.{is_within}
+use Rattle.rail_base.specs.Lines.{number, numbers_after}
+use Rattle.drive_rules.specs.Route.{is_light_step, step_fault, step_of, step_on, unless}
+use Rattle.rail_base.specs.Numbers.{is_within}
 use Rattle.rail_specs.specs.Step.{step_of_train}
 use Rattle.drive_rules.specs.RouteParts.{step_line}
 

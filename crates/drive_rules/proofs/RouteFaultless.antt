@@ -6,10 +6,10 @@ use Rattle.std.proofs.lemmas.Bool.Decides.{nat_tests}
 use Rattle.std.proofs.lemmas.Int.{ints}
 use Rattle.std.specs.Str.{bytes_eq}
 use Rattle.std.specs.List.{AllByRecursion}
-use Rattle.rail_specs.specs.First.{first_in}
+use Rattle.rail_base.specs.First.{first_in}
 use Rattle.std.specs.Option.{option_or}
-use Rattle.rail_specs.specs.Lines.{numbers_after}
-use Rattle.rail_specs.specs.Route.{RouteStep, behind_faults, end_fault, entry_faults, form_then_range, is_light_step, is_step_line, step_fault, step_of, step_on, steps_on}
+use Rattle.rail_base.specs.Lines.{numbers_after}
+use Rattle.drive_rules.specs.Route.{RouteStep, behind_faults, end_fault, entry_faults, form_then_range, is_light_step, is_step_line, step_fault, step_of, step_on, steps_on}
 use Rattle.drive_rules.proofs.VerdictLemmas.{option_or-none}
 
 -- a step of a train with this inertia mass and coefficient c is in range, and its drag is small

@@ -1,9 +1,9 @@
 -- How the lines before the steps are read, one by one.
 use Rattle.std.proofs.Common.{ℕ, zero, suc, ◌≡◌, ◌∙◌, Bool, List, [], ◌∷◌, Option, Some, None, Ok, Err, drop, refl, ap, ℤ}
 use Rattle.std.specs.Prelude.{slice_get, option_and_then}
-use Rattle.rail_specs.specs.declared.RouteFault.{RouteFault}
-use Rattle.rail_specs.specs.Lines.{numbers_after, numbers_at}
-use Rattle.rail_specs.specs.Route.{form_then_range, unless}
+use Rattle.drive_rules.specs.declared.route.fault.RouteFault.{RouteFault}
+use Rattle.rail_base.specs.Lines.{numbers_after, numbers_at}
+use Rattle.drive_rules.specs.Route.{form_then_range, unless}
 
 pub unless-ok : {X : Type 0} (fault : Option RouteFault) (x y : X) → Ok y ≡ unless fault x → (fault ≡ None) × (y ≡ x)
 unless-ok None x y h = (refl, cc h)

@@ -8,7 +8,7 @@ use Rattle.std.proofs.lemmas.Bool.{cases_lt}
 use Rattle.std.proofs.lemmas.List.{get_or_past, get_or-map, get_or-replicate, length-map, length-replicate}
 use Rattle.std.proofs.lemmas.List.Elements.{All-from_recursion, All-get_or, All-cons, All-nil}
 use Rattle.rail_specs.specs.declared.Timing.{Timing}
-use Rattle.rail_specs.specs.Route.{Route, RouteStep, ends_from, rules_of_route, step_numbers}
+use Rattle.drive_rules.specs.Route.{Route, RouteStep, ends_from, rules_of_route, step_numbers}
 use Rattle.rail_specs.specs.Rules.{no_step, step_at, IsPassed}
 use Rattle.rail_specs.specs.Step.{HasSmallDrag, IsInRange, IsTrainInRange}
 use Rattle.rail_specs.specs.Table.{IsForceTable}

@@ -2,12 +2,12 @@
 use Rattle.std.proofs.Common.{ℕ, ◌≡◌, ◌≤◌, ◌+◌, ◌∙◌, Bool, List, [], ◌∷◌, ◌++◌, length, cond, drop, map, count_by, Option, Some, None, Result, Ok, Err, refl, ap, sym, arith, subst}
 use Rattle.std.proofs.lemmas.List.{append-nil, length-map}
 use Rattle.std.proofs.lemmas.List.Sums.{sum_by-take-drop}
-use Rattle.rail_specs.specs.declared.RouteFault.{RouteFault}
-use Rattle.rail_specs.specs.declared.RouteFault.TheVariants.{Form, Range, TooManySteps, NoMemory}
+use Rattle.drive_rules.specs.declared.route.fault.RouteFault.{RouteFault}
+use Rattle.drive_rules.specs.declared.route.fault.RouteFault.TheVariants.{Form, Range, TooManySteps, NoMemory}
 use Rattle.std.specs.Option.{option_or}
-use Rattle.rail_specs.specs.First.{first_in}
-use Rattle.rail_specs.specs.Lines.{size}
-use Rattle.rail_specs.specs.Route.{Route, entry_faults, ends_from, heading_faults, line_faults, route_in, rules_of_read, rules_of_route, step_numbers, steps_on, train_line, unless}
+use Rattle.rail_base.specs.First.{first_in}
+use Rattle.rail_base.specs.Lines.{size}
+use Rattle.drive_rules.specs.Route.{Route, entry_faults, ends_from, heading_faults, line_faults, route_in, rules_of_read, rules_of_route, step_numbers, steps_on, train_line, unless}
 use Rattle.rail_specs.specs.Rules.{Rules}
 use Rattle.drive_rules.specs.declared.route.data.Heading.{Heading}
 use Rattle.drive_rules.specs.declared.route.data.StepLists.{StepLists}

@@ -7,7 +7,7 @@ use Rattle.rail_specs.specs.Cost.{int_sum_below}
 use Rattle.rail_specs.specs.Rules.{Rules}
 use Rattle.drive_rules.specs.declared.judge.Rule.{Rule}
 use Rattle.std.specs.Option.{option_or}
-use Rattle.rail_specs.specs.First.{first_below}
+use Rattle.rail_base.specs.First.{first_below}
 use Rattle.drive_rules.specs.Verdict.{step_rule, step_fault}
 
 -- where there is no first of two, there is neither

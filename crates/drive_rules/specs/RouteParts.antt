@@ -1,13 +1,13 @@
 -- What the parts of a route's text give, as they are read one after another.
 use Rattle.std.specs.Prelude.{ℕ, ◌+◌, ◌*◌, ◌≡◌, ◌≤◌, true, false, List, [], ◌∷◌, ◌++◌, Option, Some, None, Result, Ok, Err, map, codes, pos, length, replicate, if◌then◌else◌}
 use Rattle.std.specs.Str.{bytes_eq}
-use Rattle.rail_specs.specs.declared.RouteFault.{RouteFault}
-use Rattle.rail_specs.specs.declared.RouteFault.TheVariants.{NoMemory}
+use Rattle.drive_rules.specs.declared.route.fault.RouteFault.{RouteFault}
+use Rattle.drive_rules.specs.declared.route.fault.RouteFault.TheVariants.{NoMemory}
 use Rattle.rail_specs.specs.declared.StepNumbers.{StepNumbers}
 use Rattle.rail_specs.specs.declared.TrainNumbers.{TrainNumbers}
-use Rattle.rail_specs.specs.First.{first_in}
-use Rattle.rail_specs.specs.Lines.{size}
-use Rattle.rail_specs.specs.Route.{RouteStep, train_line, top_line, traction_line, brake_line, latest_line, train_numbers, is_step_line, step_on, step_fault, end_fault, entry_faults, step_numbers, ends_from}
+use Rattle.rail_base.specs.First.{first_in}
+use Rattle.rail_base.specs.Lines.{size}
+use Rattle.drive_rules.specs.Route.{RouteStep, train_line, top_line, traction_line, brake_line, latest_line, train_numbers, is_step_line, step_on, step_fault, end_fault, entry_faults, step_numbers, ends_from}
 use Rattle.rail_specs.specs.Rules.{Rules}
 use Rattle.rail_specs.specs.Step.{IsTrainInRange}
 use Rattle.drive_rules.specs.declared.route.data.Heading.{Heading}

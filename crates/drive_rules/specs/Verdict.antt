@@ -5,7 +5,7 @@ use Rattle.std.specs.Option.{option_map, option_or}
 use Rattle.rail_specs.specs.Rules.{Rules, is_stop, step_at, timing_at, traction_work, brake_work}
 use Rattle.rail_specs.specs.Times.{arrival_up}
 use Rattle.rail_specs.specs.Step.{work}
-use Rattle.rail_specs.specs.First.{first_below}
+use Rattle.rail_base.specs.First.{first_below}
 use Rattle.drive_rules.specs.declared.judge.Rule.{Rule}
 use Rattle.drive_rules.specs.declared.judge.Rule.TheVariants.{Length, Start, Stop, Standing, Limit, Top, Traction, Brake, Late}
 use Rattle.drive_rules.specs.declared.judge.Judged.{Judged}

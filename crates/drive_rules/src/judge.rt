@@ -1,7 +1,7 @@
 //! The judge of any list of speeds.
 ghost use Rattle.std.specs.Prelude.{◌≡◌, ℕ, ◌+◌, ◌-◌, ◌*◌, ◌<◌, ◌≤◌, ◌↔◌, ◌^◌, ℤ, pos, length, slice_index, MatchResult, IfOk, IfErr, None, Some};
 ghost use Rattle.std.specs.Int.RustNames.{unsigned_abs};
-ghost use Rattle.rail_specs.specs.First.{first_below};
+ghost use Rattle.rail_base.specs.First.{first_below};
 ghost use Rattle.rail_specs.specs.Rules.{IsDrive, step_at};
 ghost use Rattle.rail_specs.specs.Times.{arrival_up, IsOnTimeUp};
 ghost use Rattle.rail_specs.specs.Cost.{cost_of};

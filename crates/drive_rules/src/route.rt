@@ -2,10 +2,11 @@
 
 ghost use Rattle.std.specs.Prelude.{◌≡◌, ◌≢◌, ◌+◌, ◌≤◌, length, count_by, IfOk};
 ghost use Rattle.std.specs.Str.Lines.{lines};
-ghost use Rattle.rail_specs.specs.Route.{is_step_line, rules_of_text};
+ghost use Rattle.drive_rules.specs.Route.{is_step_line, rules_of_text};
 
 pub(crate) mod data;
 pub(crate) mod entries;
+pub(crate) mod fault;
 pub(crate) mod heading;
 pub(crate) mod line;
 pub(crate) mod making;
@@ -13,9 +14,9 @@ pub(crate) mod making;
 use crate::route::entries::read_steps;
 use crate::route::heading::read_heading;
 use crate::route::making::make_rules;
+use crate::route::fault::RouteFault;
 use crate::rules::Rules;
 use rail_base::text_lines;
-use rail_specs::RouteFault;
 use std::alloc::Global;
 use std::sync::ledger::Ledger;
 use step_energy::Steps;

@@ -2,7 +2,7 @@
 use Rattle.std.proofs.Common.{◌≡◌, ◌≤◌, ◌+◌, ◌-◌, ◌++◌, ◌∙◌, ℕ, List, Option, Some, None, length, take, drop, sym, ap, arith, append_assoc}
 use Rattle.std.proofs.lemmas.List.{append-nil, length-drop, take_all}
 use Rattle.std.proofs.Math.Seq.{take-add}
-use Rattle.rail_specs.specs.Faults.{Appends, Puts}
+use Rattle.edge_io.specs.Faults.{Appends, Puts}
 
 pub appends-none : (a : Option (List ℕ)) (xs : List ℕ) → Appends a (take 0 xs) a
 appends-none None xs = tt

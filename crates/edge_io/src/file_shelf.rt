@@ -1,7 +1,7 @@
 //! Files of the system.
 
 ghost use Rattle.std.specs.Prelude.{◌≡◌, ◌≢◌, ◌≤◌, ◌++◌, ℕ, List, None, IfOk, IfSome, OnOk, take, vec_len};
-ghost use Rattle.rail_specs.specs.Faults.{Fetches, Rose};
+ghost use Rattle.edge_io.specs.Faults.{Fetches, Rose};
 ghost use Rattle.edge_io.specs.Counts.{count_in, raised};
 
 use crate::counts::Counts;

@@ -1,7 +1,7 @@
 //! Files in memory.
 
 ghost use Rattle.std.specs.Prelude.{◌≡◌, ◌≢◌, ◌≤◌, ◌+◌, ℕ, List, IfOk, Some, None, option_map, take};
-ghost use Rattle.rail_specs.specs.Faults.{Fetches, Rose};
+ghost use Rattle.edge_io.specs.Faults.{Fetches, Rose};
 ghost use Rattle.edge_io.specs.Counts.{count_in, raised};
 ghost use Rattle.edge_io.specs.Memory.{counted, file_of, next_file};
 ghost use Rattle.edge_io.specs.Named.{named};

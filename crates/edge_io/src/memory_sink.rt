@@ -1,7 +1,7 @@
 //! Bytes put to memory.
 
 ghost use Rattle.std.specs.Prelude.{◌≡◌, ◌≤◌, ◌<◌, ◌+◌, ℕ, List, [], Some, IfOk, IsErr, MatchOption, OnErr, min, length};
-ghost use Rattle.rail_specs.specs.Faults.{HasCause, Puts};
+ghost use Rattle.edge_io.specs.Faults.{HasCause, Puts};
 ghost use Rattle.edge_io.specs.Memory.{after_put, next_count};
 
 use crate::failing_calls::fails_next;

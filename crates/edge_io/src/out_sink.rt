@@ -2,7 +2,7 @@
 
 ghost use Rattle.std.specs.Prelude.{◌≡◌, ◌≢◌, ◌≤◌, ◌<◌, ℕ, None, Ok, IfOk, length, take};
 ghost use Rattle.std.specs.Io.KnownBytes.{Appends};
-ghost use Rattle.rail_specs.specs.Faults.{HasCause};
+ghost use Rattle.edge_io.specs.Faults.{HasCause};
 ghost use Rattle.edge_io.specs.Counts.{raised};
 
 use crate::sink::{Failed, Sink};

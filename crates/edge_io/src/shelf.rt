@@ -1,7 +1,7 @@
 //! Files by name.
 
 ghost use Rattle.std.specs.Prelude.{◌≡◌, ◌≢◌, ◌≤◌, ℕ, List, IfOk};
-ghost use Rattle.rail_specs.specs.Faults.{Fetches, Rose, Told};
+ghost use Rattle.edge_io.specs.Faults.{Fetches, Rose, Told};
 
 use std::alloc::Global;
 

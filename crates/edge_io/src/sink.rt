@@ -1,7 +1,7 @@
 //! Bytes that are put.
 
 ghost use Rattle.std.specs.Prelude.{◌≡◌, ◌≤◌, ℕ, List, Option, IfOk, OnOk, OnErr, take, length};
-ghost use Rattle.rail_specs.specs.Faults.{Appends, HasCause, Puts};
+ghost use Rattle.edge_io.specs.Faults.{Appends, HasCause, Puts};
 
 /// A put failed, and the sink's count of faults rose.
 #[derive(Clone, Copy, Debug, PartialEq, Eq)]

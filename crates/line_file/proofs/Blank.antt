@@ -1,7 +1,7 @@
 -- The test for a blank record, by its first field and its length.
 use Rattle.std.proofs.Common.{◌≡◌, ◌∷◌, ℕ, List, [], length, Some, None, true, false, refl, ap, arith}
 use Rattle.csv.specs.Records.{field_at}
-use Rattle.rail_specs.specs.Numbers.{trimmed}
+use Rattle.rail_base.specs.Numbers.{trimmed}
 use Rattle.line_file.specs.Rows.{is_blank, is_empty}
 
 pub blank-none : (fields : List (List ℕ)) → None ≡ field_at fields 0 → true ≡ is_blank fields

@@ -3,7 +3,7 @@ use Rattle.std.specs.Prelude.{◌==◌, ◌&&◌, ◌||◌, ◌-◌, ◌*◌, �
 use Rattle.std.specs.Int.RustNames.{int_le, int_lt, unsigned_abs}
 use Rattle.std.specs.List.{cons_option, filter_map}
 use Rattle.std.specs.Str.{bytes_eq}
-use Rattle.rail_specs.specs.Numbers.{number_of, trimmed}
+use Rattle.rail_base.specs.Numbers.{number_of, trimmed}
 use Rattle.line_file.specs.Rows.{Fields, field_of, has_fields, rows_of}
 use Rattle.line_file.specs.RowFile.{below_header, counted_fault, rows_in}
 use Rattle.line_file.specs.declared.sections.Section.{Section}

@@ -7,7 +7,7 @@ use Rattle.csv.specs.Records.{field_at}
 use Rattle.csv.specs.Reading.{Ready, default_config, is_flexible, reader_config, reader_state, reader_trim, records, records_from, source_of, strip_bom}
 use Rattle.csv.specs.declared.reader.Reader.{Reader}
 use Rattle.csv.specs.declared.reader.Trim.TheVariants as trim
-use Rattle.rail_specs.specs.Numbers.{trimmed}
+use Rattle.rail_base.specs.Numbers.{trimmed}
 
 -- a record of a text: its fields, each of bytes
 abbrev pub Fields : Type 0

@@ -3,7 +3,7 @@ use Rattle.std.specs.Prelude.{◌&&◌, ◌||◌, ◌-◌, ◌++◌, Bool, true,
 use Rattle.std.specs.Int.RustNames.{int_le, unsigned_abs}
 use Rattle.std.specs.List.{cons_option, filter_map}
 use Rattle.std.specs.Result.{result_ok}
-use Rattle.rail_specs.specs.Numbers.{number_of, trimmed}
+use Rattle.rail_base.specs.Numbers.{number_of, trimmed}
 use Rattle.line_file.specs.Rows.{Fields, field_of, has_fields, is_empty, rows_of}
 use Rattle.line_file.specs.RowFile.{below_header, counted_fault, rows_in}
 use Rattle.line_file.specs.declared.calls.Call.{Call}

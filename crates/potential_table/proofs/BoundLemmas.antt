@@ -6,16 +6,16 @@ use Rattle.std.specs.Prelude.{ℤ, pos, negsuc, true, ◌+ℤ◌, ◌-ℤ◌, �
 use Rattle.std.proofs.lemmas.Int.{ints}
 use Rattle.std.proofs.lemmas.List.{get_or-map, length-map}
 use Rattle.std.proofs.Math.Nat.{mul-le-mul_left}
-use Rattle.rail_specs.specs.declared.Cell.{Cell}
+use Rattle.bound_specs.specs.declared.Cell.{Cell}
 use Rattle.rail_specs.specs.declared.Timing.{Timing}
 use Rattle.rail_specs.specs.Step.{lower_time}
 use Rattle.rail_specs.specs.Rules.{Rules, step_at, work_at, timing_at, no_timing, IsDrive}
 use Rattle.rail_specs.specs.Times.{sum_below, arrival_down, slack_of, IsOnTimeDown}
 use Rattle.rail_specs.specs.Cost.{int_sum_below, cost_of, IsBound}
-use Rattle.rail_specs.specs.Cells.{cells_of, cell_at, HasSpeed, CellsCover}
-use Rattle.rail_specs.specs.Chains.{IsAtMost, cost_along, values_of, value_at, WeakDuality}
-use Rattle.rail_specs.specs.Prices.{Prices, ArePrices, AreFor, step_price, priced_slack}
-use Rattle.rail_specs.specs.Links.{Pricing, can_drive, priced_cost, low_cost}
+use Rattle.bound_specs.specs.Cells.{cells_of, cell_at, HasSpeed, CellsCover}
+use Rattle.bound_specs.specs.Chains.{IsAtMost, cost_along, values_of, value_at, WeakDuality}
+use Rattle.bound_specs.specs.Prices.{Prices, ArePrices, AreFor, step_price, priced_slack}
+use Rattle.bound_specs.specs.Links.{Pricing, can_drive, priced_cost, low_cost}
 use Rattle.time_multipliers.specs.Steps.{StepsSumByParts}
 use Rattle.drive_rules.specs.Shaped.{IsShaped}
 use Rattle.potential_table.proofs.LinkLemmas.{some_if}

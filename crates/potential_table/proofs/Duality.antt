@@ -3,9 +3,9 @@ use Rattle.std.proofs.Common.{ℕ, suc, ◌≡◌, ◌<◌, ◌≤◌, ◌+◌, 
 use Rattle.std.specs.Prelude.{ℤ}
 use Rattle.std.proofs.lemmas.List.{get_or_default, get_or-drop}
 use Rattle.std.proofs.lemmas.List.Elements.{Contains-get_or}
-use Rattle.rail_specs.specs.declared.Cell.{Cell}
-use Rattle.rail_specs.specs.Cells.{cells_of, cell_at, no_cell, IsCell, HasSpeed, RunInside, AreAdjacent}
-use Rattle.rail_specs.specs.Chains.{plus, IsAtMost, cost_along, RunThrough, IsLeastChain, value_at, ArePotentials, AreCellCosts, WeakDuality}
+use Rattle.bound_specs.specs.declared.Cell.{Cell}
+use Rattle.bound_specs.specs.Cells.{cells_of, cell_at, no_cell, IsCell, HasSpeed, RunInside, AreAdjacent}
+use Rattle.bound_specs.specs.Chains.{plus, IsAtMost, cost_along, RunThrough, IsLeastChain, value_at, ArePotentials, AreCellCosts, WeakDuality}
 use Rattle.potential_table.specs.Filling.{IsSmallSum}
 use Rattle.potential_table.proofs.Orders.{at_most-trans, at_most-refl, plus_rises, IsWithin, plus_within}
 

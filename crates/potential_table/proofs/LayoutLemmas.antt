@@ -4,7 +4,7 @@ use Rattle.std.specs.Prelude.{ℤ, IfSome}
 use Rattle.std.specs.Int.RustNames.{unsigned_abs}
 use Rattle.std.proofs.lemmas.List.{get_or_default, get_or-drop, get_or-take}
 use Rattle.std.proofs.lemmas.List.FromFn.{length-map-range_with_len, get_or-map-range_with_len}
-use Rattle.rail_specs.specs.Chains.{values_of, value_at}
+use Rattle.bound_specs.specs.Chains.{values_of, value_at}
 use Rattle.potential_table.specs.Layout.{part_of, values_in, IsLayout}
 
 -- a list of starts never falls

@@ -4,7 +4,7 @@ use Rattle.std.specs.Prelude.{ℤ, ◌⊎◌, ◌≤ℤ◌, ◌<ℤ◌, IfSome, 
 use Rattle.std.specs.Int.{int_min}
 use Rattle.std.proofs.lemmas.Int.{ints}
 use Rattle.std.proofs.lemmas.Bool.{cases_lt}
-use Rattle.rail_specs.specs.Chains.{IsAtMost}
+use Rattle.bound_specs.specs.Chains.{IsAtMost}
 use Rattle.potential_table.specs.Filling.{lesser, sum_found, IsLeastOf}
 use Rattle.potential_table.proofs.Orders.{at_most-refl, at_most-trans}
 

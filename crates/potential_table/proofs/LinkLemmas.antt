@@ -4,13 +4,13 @@ use Rattle.std.specs.Prelude.{ℤ, pos, neg_ℤ, ◌+ℤ◌, ◌≤ℤ◌, Some,
 use Rattle.std.specs.Int.{w64, w128}
 use Rattle.std.specs.Int.RustNames.{unsigned_abs}
 use Rattle.std.proofs.lemmas.Int.{ints}
-use Rattle.rail_specs.specs.declared.Cell.{Cell}
+use Rattle.bound_specs.specs.declared.Cell.{Cell}
 use Rattle.rail_specs.specs.Step.{work, lower_time}
 use Rattle.rail_specs.specs.declared.StepNumbers.{StepNumbers}
 use Rattle.rail_specs.specs.Rules.{Rules, step_at}
-use Rattle.rail_specs.specs.Links.{Pricing, can_drive, can_link, priced_time, priced_cost, low_cost}
-use Rattle.rail_specs.specs.Cells.{single}
-use Rattle.rail_specs.specs.Prices.{step_price}
+use Rattle.bound_specs.specs.Links.{Pricing, can_drive, can_link, priced_time, priced_cost, low_cost}
+use Rattle.bound_specs.specs.Cells.{single}
+use Rattle.bound_specs.specs.Prices.{step_price}
 use Rattle.potential_table.specs.PricedLaws.{link_whole}
 
 pub some_if : (x : Bool) (p q : ℤ) → IsTrue x → p ≡ q → Some p ≡ (if x then Some q else None)

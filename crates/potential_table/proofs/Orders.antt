@@ -3,7 +3,7 @@ use Rattle.std.proofs.Common.{ℕ, ◌≡◌, ◌≤◌, ◌+◌, Option, Some, 
 use Rattle.std.specs.Prelude.{ℤ, IfSome}
 use Rattle.std.specs.Int.RustNames.{unsigned_abs}
 use Rattle.std.proofs.lemmas.Int.{ints}
-use Rattle.rail_specs.specs.Chains.{plus, IsAtMost}
+use Rattle.bound_specs.specs.Chains.{plus, IsAtMost}
 
 -- a number is at most itself
 pub at_most-refl : (p : Option ℤ) → IsAtMost p p

@@ -5,8 +5,8 @@ use Rattle.std.proofs.Math.ListN.{get_or-append}
 use Rattle.std.proofs.Math.Seq.{get_or-append_seam}
 use Rattle.std.proofs.lemmas.Bool.{cases_lt}
 use Rattle.std.proofs.lemmas.List.{get_or-append_right, get_or-replicate, length-replicate, get_or_past}
-use Rattle.rail_specs.specs.declared.Cell.{Cell}
-use Rattle.rail_specs.specs.Cells.{cells_of}
+use Rattle.bound_specs.specs.declared.Cell.{Cell}
+use Rattle.bound_specs.specs.Cells.{cells_of}
 use Rattle.potential_table.specs.Filling.{AreStarts}
 use Rattle.potential_table.proofs.LayoutLemmas.{never_falls}
 

@@ -4,9 +4,9 @@ use Rattle.std.proofs.Math.ListN.{drop_of_length-le}
 use Rattle.std.specs.Prelude.{ℤ, IfSome}
 use Rattle.std.proofs.lemmas.List.{get_or_default}
 use Rattle.std.proofs.lemmas.List.Elements.{Contains-get_or}
-use Rattle.rail_specs.specs.declared.Cell.{Cell}
-use Rattle.rail_specs.specs.Cells.{cells_of, cell_at, no_cell}
-use Rattle.rail_specs.specs.Chains.{plus, IsAtMost, cost_along, RunThrough, IsLeastChain}
+use Rattle.bound_specs.specs.declared.Cell.{Cell}
+use Rattle.bound_specs.specs.Cells.{cells_of, cell_at, no_cell}
+use Rattle.bound_specs.specs.Chains.{plus, IsAtMost, cost_along, RunThrough, IsLeastChain}
 use Rattle.potential_table.specs.Filling.{IsLeastOf, through}
 use Rattle.potential_table.proofs.Orders.{at_most-trans, at_most-refl, plus_rises, second_part}
 

@@ -4,9 +4,9 @@ use Rattle.std.specs.Prelude.{ℤ, IfSome}
 use Rattle.std.specs.Int.RustNames.{unsigned_abs}
 use Rattle.std.proofs.lemmas.Bool.{cases_lt}
 use Rattle.std.proofs.lemmas.List.{get_or_past}
-use Rattle.rail_specs.specs.declared.Cell.{Cell}
-use Rattle.rail_specs.specs.Cells.{cells_of, cell_at}
-use Rattle.rail_specs.specs.Chains.{IsLeastChain, AreCellCosts, ArePotentials, values_of}
+use Rattle.bound_specs.specs.declared.Cell.{Cell}
+use Rattle.bound_specs.specs.Cells.{cells_of, cell_at}
+use Rattle.bound_specs.specs.Chains.{IsLeastChain, AreCellCosts, ArePotentials, values_of}
 use Rattle.potential_table.specs.Filling.{IsLeastOf, through, IsSmallSum, AreStarts, IsFilled}
 use Rattle.potential_table.specs.Layout.{values_in, IsLayout}
 use Rattle.potential_table.proofs.Duality.{AreCellsOfPoints, least_small}

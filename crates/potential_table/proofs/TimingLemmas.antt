@@ -4,7 +4,7 @@ use Rattle.std.specs.Prelude.{List, length, map, slice_index}
 use Rattle.std.proofs.lemmas.List.{get_or-map, length-map}
 use Rattle.rail_specs.specs.declared.Timing.{Timing}
 use Rattle.rail_specs.specs.Rules.{Rules, timing_at, no_timing}
-use Rattle.rail_specs.specs.Prices.{ArePrices}
+use Rattle.bound_specs.specs.Prices.{ArePrices}
 use Rattle.drive_rules.specs.Shaped.{IsShaped}
 
 -- the point of timing point j

@@ -4,9 +4,9 @@ use Rattle.std.specs.Prelude.{ℤ, IfSome}
 use Rattle.std.proofs.Math.ListN.{get_or-append}
 use Rattle.std.proofs.Math.Seq.{get_or-append_seam}
 use Rattle.std.proofs.lemmas.Bool.{cases_lt}
-use Rattle.rail_specs.specs.declared.Cell.{Cell}
-use Rattle.rail_specs.specs.Cells.{no_cell, IsCell}
-use Rattle.rail_specs.specs.Chains.{plus, IsAtMost}
+use Rattle.bound_specs.specs.declared.Cell.{Cell}
+use Rattle.bound_specs.specs.Cells.{no_cell, IsCell}
+use Rattle.bound_specs.specs.Chains.{plus, IsAtMost}
 use Rattle.potential_table.specs.declared.ways.Way.{Way}
 use Rattle.potential_table.specs.Filling.{through, IsLeastOf, IsSmallSum}
 use Rattle.potential_table.specs.Ways.{no_way, way_at, ways_with, AreWays, AreUsable, by_way}

@@ -1,12 +1,12 @@
 -- When potentials and prices give a bound.
 use Rattle.std.specs.Prelude.{ℕ, ◌<◌, ℤ, List, Option, length}
-use Rattle.rail_specs.specs.declared.Cell.{Cell}
+use Rattle.bound_specs.specs.declared.Cell.{Cell}
 use Rattle.rail_specs.specs.Rules.{Rules}
 use Rattle.rail_specs.specs.Cost.{Grows, StaysWithin, IsBound}
-use Rattle.rail_specs.specs.Cells.{cells_of, AreAdjacent, CellsCover}
-use Rattle.rail_specs.specs.Chains.{ArePotentials}
-use Rattle.rail_specs.specs.Prices.{Prices}
-use Rattle.rail_specs.specs.Links.{low_cost}
+use Rattle.bound_specs.specs.Cells.{cells_of, AreAdjacent, CellsCover}
+use Rattle.bound_specs.specs.Chains.{ArePotentials}
+use Rattle.bound_specs.specs.Prices.{Prices}
+use Rattle.bound_specs.specs.Links.{low_cost}
 
 -- a number is a bound for each cost of work under which the values are the potentials of cells that cover the rules
 abbrev pub GivesBound : Rules → Prices → List (List (Option ℤ)) → ℤ → Type 0

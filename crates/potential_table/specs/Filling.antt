@@ -1,9 +1,9 @@
 -- How the table is filled, from the last point backwards.
 use Rattle.std.specs.Prelude.{ℕ, ◌+◌, ◌*◌, ◌^◌, ◌<◌, ◌≤◌, ◌≡◌, ◌-◌, ℤ, pos, cond, int_le, List, Option, Some, None, IfSome, length, slice_index, slice_index_or}
 use Rattle.std.specs.Int.RustNames.{unsigned_abs}
-use Rattle.rail_specs.specs.declared.Cell.{Cell}
-use Rattle.rail_specs.specs.Cells.{cells_of, cell_at, no_cell, IsCell}
-use Rattle.rail_specs.specs.Chains.{plus, IsAtMost, IsLeastChain}
+use Rattle.bound_specs.specs.declared.Cell.{Cell}
+use Rattle.bound_specs.specs.Cells.{cells_of, cell_at, no_cell, IsCell}
+use Rattle.bound_specs.specs.Chains.{plus, IsAtMost, IsLeastChain}
 
 -- the lesser of two numbers; none stands above every number
 abbrev pub lesser : Option ℤ → Option ℤ → Option ℤ

@@ -7,15 +7,15 @@ use Rattle.std.proofs.lemmas.Nat.{mul-le, le-div}
 use Rattle.std.proofs.lemmas.Bool.{and_parts, leb-true}
 use Rattle.std.proofs.lemmas.Bool.Decides.{nat_tests}
 use Rattle.std.proofs.Math.Nat.{mul-le-mul_left, div-mul-le_self, div-le_self}
-use Rattle.rail_specs.specs.declared.Cell.{Cell}
+use Rattle.bound_specs.specs.declared.Cell.{Cell}
 use Rattle.rail_specs.specs.declared.StepNumbers.{StepNumbers}
 use Rattle.rail_specs.specs.Step.{work, lower_time, HasSmallDrag, IsInRange}
 use Rattle.rail_specs.specs.Rules.{Rules, step_at, IsStepKept, traction_work, brake_work}
 use Rattle.rail_specs.specs.Times.{sum_below}
-use Rattle.rail_specs.specs.Cells.{IsInside, single}
-use Rattle.rail_specs.specs.Chains.{IsAtMost, IsSmall, AreCellCosts}
-use Rattle.rail_specs.specs.Prices.{Prices, ArePrices, charge, step_price}
-use Rattle.rail_specs.specs.Links.{Pricing, can_drive, can_link, priced_time, priced_cost, low_cost}
+use Rattle.bound_specs.specs.Cells.{IsInside, single}
+use Rattle.bound_specs.specs.Chains.{IsAtMost, IsSmall, AreCellCosts}
+use Rattle.bound_specs.specs.Prices.{Prices, ArePrices, charge, step_price}
+use Rattle.bound_specs.specs.Links.{Pricing, can_drive, can_link, priced_time, priced_cost, low_cost}
 use Rattle.rail_specs.proofs.WorkLemmas.{work_rises, work_falls, work_parts}
 use Rattle.step_energy.proofs.Bounds.{work_up_bound, fall_bound}
 use Rattle.drive_rules.specs.Shaped.{IsShaped}

@@ -1,9 +1,9 @@
 -- Costs of links that a test takes: a step from 0 to 0 can't be driven; any other costs 20 more than what it ends with, less 3 times
 -- what it begins with.
 use Rattle.std.specs.Prelude.{ℕ, zero, suc, ◌+◌, ◌*◌, ◌≤◌, ℤ, pos, ◌-ℤ◌, Option, Some, None, refl}
-use Rattle.rail_specs.specs.declared.Cell.{Cell}
-use Rattle.rail_specs.specs.Cells.{single}
-use Rattle.rail_specs.specs.Chains.{IsAtMost, IsSmall, AreCellCosts}
+use Rattle.bound_specs.specs.declared.Cell.{Cell}
+use Rattle.bound_specs.specs.Cells.{single}
+use Rattle.bound_specs.specs.Chains.{IsAtMost, IsSmall, AreCellCosts}
 use Rattle.std.proofs.Common.{arith}
 use Rattle.std.proofs.lemmas.Int.{ints}
 

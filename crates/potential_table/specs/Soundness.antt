@@ -1,10 +1,10 @@
 -- What the costs of a run's steps rest on.
 use Rattle.std.specs.Prelude.{ℤ}
 use Rattle.rail_specs.specs.Rules.{Rules}
-use Rattle.rail_specs.specs.Prices.{Prices}
+use Rattle.bound_specs.specs.Prices.{Prices}
 use Rattle.rail_specs.specs.Cost.{Grows, StaysWithin}
-use Rattle.rail_specs.specs.Prices.{ArePrices, AreFor}
-use Rattle.rail_specs.specs.Links.{Pricing}
+use Rattle.bound_specs.specs.Prices.{ArePrices, AreFor}
+use Rattle.bound_specs.specs.Links.{Pricing}
 use Rattle.drive_rules.specs.Shaped.{IsShaped}
 
 -- a cost that keeps its laws, the rules of a run, and prices for their timing points

@@ -1,8 +1,8 @@
 -- Ways on: the cells of a point from which there is a chain to the last point, each with what the least such chain costs.
 use Rattle.std.specs.Prelude.{ℕ, ◌<◌, ◌≡◌, ℤ, pos, List, [], ◌∷◌, ◌++◌, Option, Some, None, IfSome, length, slice_index_or}
-use Rattle.rail_specs.specs.declared.Cell.{Cell}
-use Rattle.rail_specs.specs.Cells.{no_cell, IsCell}
-use Rattle.rail_specs.specs.Chains.{plus}
+use Rattle.bound_specs.specs.declared.Cell.{Cell}
+use Rattle.bound_specs.specs.Cells.{no_cell, IsCell}
+use Rattle.bound_specs.specs.Chains.{plus}
 use Rattle.potential_table.specs.Filling.{IsSmallSum, IsLeastOf}
 use Rattle.potential_table.specs.declared.ways.Way.{Way}
 

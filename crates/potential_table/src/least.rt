@@ -1,7 +1,7 @@
 //! Least chains of cells, by a table from the last point backwards.
 ghost use Rattle.std.specs.Prelude.{◌≡◌, ℕ, pos, ◌+◌, ◌<◌, ◌≤◌, ◌++◌, length, replicate, Some, None, IfOk, OnOk, slice_index};
-ghost use Rattle.rail_specs.specs.Cells.{cells_of, IsCell};
-ghost use Rattle.rail_specs.specs.Chains.{plus, IsSmall, ArePotentials, WeakDuality};
+ghost use Rattle.bound_specs.specs.Cells.{cells_of, IsCell};
+ghost use Rattle.bound_specs.specs.Chains.{plus, IsSmall, ArePotentials, WeakDuality};
 ghost use Rattle.potential_table.specs.Filling.{lesser, sum_found, value_in, value_from, AreCells, IsSmallSum, IsLeastOf, AreStarts, IsFilled};
 ghost use Rattle.potential_table.specs.Ways.{by_way, AreLeastByWays, AreUsable};
 

@@ -1,8 +1,8 @@
 //! Which links between cells are possible.
 ghost use Rattle.std.specs.Prelude.{◌≡◌, ◌^◌, ◌<◌, length, IfSome, IfNone, IsTrue, IsFalse};
 ghost use Rattle.std.specs.Int.RustNames.{unsigned_abs};
-ghost use Rattle.rail_specs.specs.Cells.{IsCell};
-ghost use Rattle.rail_specs.specs.Links.{can_link};
+ghost use Rattle.bound_specs.specs.Cells.{IsCell};
+ghost use Rattle.bound_specs.specs.Links.{can_link};
 ghost use Rattle.rail_specs.specs.Rules.{step_at};
 ghost use Rattle.rail_specs.specs.Step.{work as work_of};
 

@@ -2,8 +2,8 @@
 ghost use Rattle.std.specs.Prelude.{◌≡◌, ℕ, ◌+◌, ◌*◌, ◌^◌, ◌<◌, ◌≤◌, ℤ, ◌-ℤ◌, ◌*ℤ◌, pos, length, slice_index, option_map, IfSome};
 ghost use Rattle.std.specs.Int.RustNames.{unsigned_abs};
 ghost use Rattle.rail_specs.specs.Times.{slack_of};
-ghost use Rattle.rail_specs.specs.Chains.{value_at, values_of};
-ghost use Rattle.rail_specs.specs.Prices.{AreFor, priced_slack};
+ghost use Rattle.bound_specs.specs.Chains.{value_at, values_of};
+ghost use Rattle.bound_specs.specs.Prices.{AreFor, priced_slack};
 ghost use Rattle.potential_table.specs.Bounds.{GivesBound};
 
 use crate::sums::{difference, sum};

@@ -1,11 +1,11 @@
 //! The costs of a run's steps, with their times priced.
 ghost use Rattle.std.specs.Prelude.{◌≡◌, ℕ, ◌+◌, ◌*◌, ◌^◌, ◌<◌, ◌≤◌, ◌↔◌, ◌+ℤ◌, pos, length, IfSome, IfNone, IsTrue, IsFalse};
 ghost use Rattle.std.specs.Int.RustNames.{unsigned_abs};
-ghost use Rattle.rail_specs.specs.Prices.{AreFor, step_price};
-ghost use Rattle.rail_specs.specs.Cells.{single, IsCell};
+ghost use Rattle.bound_specs.specs.Prices.{AreFor, step_price};
+ghost use Rattle.bound_specs.specs.Cells.{single, IsCell};
 ghost use Rattle.rail_specs.specs.Rules.{step_at, IsStepKept};
 ghost use Rattle.rail_specs.specs.Step.{work as work_of, lower_time};
-ghost use Rattle.rail_specs.specs.Links.{can_drive, can_link};
+ghost use Rattle.bound_specs.specs.Links.{can_drive, can_link};
 ghost use Rattle.potential_table.specs.Soundness.{IsPricing, pricing_of};
 
 use crate::links::link_work;
@@ -136,7 +136,7 @@ fn time_cost(price: u64, time: u32) -> i128
 
 impl<'a, C: StepCost> CellCost for Priced<'a, C> {
     ghost use Rattle.std.specs.Prelude.{length};
-    ghost use Rattle.rail_specs.specs.Links.{priced_cost, low_cost};
+    ghost use Rattle.bound_specs.specs.Links.{priced_cost, low_cost};
     ghost use Rattle.potential_table.specs.Soundness.{IsPricing, pricing_of};
     ghost use Rattle.potential_table.specs.PricedLaws.{priced_costs};
 

@@ -1,7 +1,7 @@
 //! Potentials of costs that a line of numbers gives: the least of two cells, a cost below 0, and no chain.
 ghost use Rattle.std.specs.Prelude.{◌≡◌, ℕ, ◌<◌, ◌≤◌, length};
-ghost use Rattle.rail_specs.specs.Cells.{cells_of};
-ghost use Rattle.rail_specs.specs.Chains.{values_of};
+ghost use Rattle.bound_specs.specs.Cells.{cells_of};
+ghost use Rattle.bound_specs.specs.Chains.{values_of};
 ghost use Rattle.potential_table.specs.Slopes.{slope as cost_of};
 
 use super::*;
@@ -30,7 +30,7 @@ fn slope(last: u16, right: Cell) -> Option<i128>
 impl CellCost for Slopes {
     ghost use Rattle.std.specs.Prelude.{⊤};
     ghost use Rattle.potential_table.specs.Slopes.{slope as cost_of, slopes_keep};
-    ghost use Rattle.rail_specs.specs.Cells.{single};
+    ghost use Rattle.bound_specs.specs.Cells.{single};
 
     ghost step_count = { λ s. s.steps };
 

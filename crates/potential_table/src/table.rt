@@ -1,7 +1,7 @@
 //! The values of the cells of all points.
 ghost use Rattle.std.specs.Prelude.{◌≡◌, ℕ, ◌^◌, ◌<◌, ◌≤◌, length, IfSome};
 ghost use Rattle.std.specs.Int.RustNames.{unsigned_abs};
-ghost use Rattle.rail_specs.specs.Chains.{values_of, value_at};
+ghost use Rattle.bound_specs.specs.Chains.{values_of, value_at};
 
 use std::marker::Model;
 

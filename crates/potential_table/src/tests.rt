@@ -1,6 +1,6 @@
 //! Worked numbers: two level steps of 100 m from rest to rest in 50 s.
 ghost use Rattle.std.specs.Prelude.{◌≡◌, ◌<◌, ◌≤◌, ◌+◌, ◌^◌, length, slice_index};
-ghost use Rattle.rail_specs.specs.Cells.{cells_of};
+ghost use Rattle.bound_specs.specs.Cells.{cells_of};
 
 use super::*;
 use drive_rules::{Rules, read_route};

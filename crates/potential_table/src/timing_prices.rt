@@ -1,6 +1,6 @@
 //! Prices for a run's timing points.
 ghost use Rattle.std.specs.Prelude.{◌≡◌, ℕ, ◌^◌, ◌≤◌, map, length, take, slice_index, IfOk};
-ghost use Rattle.rail_specs.specs.Prices.{AreFor};
+ghost use Rattle.bound_specs.specs.Prices.{AreFor};
 
 use drive_rules::Rules;
 use std::alloc::{AllocError, Global};

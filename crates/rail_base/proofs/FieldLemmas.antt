@@ -4,7 +4,7 @@ use Rattle.std.specs.List.{position, position_or_len, slice_split}
 use Rattle.std.proofs.lemmas.List.{take_all}
 use Rattle.std.proofs.lemmas.List.Splits.{slice_split_first}
 use Rattle.std.proofs.lemmas.Bool.{cases_lt, cases_Bool, lt-ltb, le-ltb}
-use Rattle.rail_specs.specs.Lines.{fields_of}
+use Rattle.rail_base.specs.Lines.{fields_of}
 
 abbrev is_space : ℕ → Bool
 is_space b = eqb b 32

@@ -6,7 +6,7 @@ use Rattle.std.specs.Str.Parse.{digits_value_after}
 use Rattle.std.proofs.lemmas.List.{drop_all, reverse-append, reverse-reverse, take_more}
 use Rattle.std.proofs.Math.Nat.{pow-le-pow_right}
 use Rattle.std.proofs.lemmas.Grind.{pow_more}
-use Rattle.rail_specs.specs.Numbers.{after_spaces, before_spaces}
+use Rattle.rail_base.specs.Numbers.{after_spaces, before_spaces}
 
 -- a space at a place goes
 pub front_space : (text : List ℕ) (i : ℕ) → i < length text → get_or text i 0 ≡ 32 → after_spaces (drop i text) ≡ after_spaces (drop (i + 1) text)

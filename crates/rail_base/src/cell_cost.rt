@@ -1,10 +1,10 @@
 //! What the steps of a run cost between speeds, and at least between cells of speeds.
 ghost use Rattle.std.specs.Prelude.{◌≡◌, ℕ, ℤ, ◌<◌, ◌≤◌, Option};
-ghost use Rattle.rail_specs.specs.declared.Cell.{Cell as CellData};
-ghost use Rattle.rail_specs.specs.Cells.{IsCell};
-ghost use Rattle.rail_specs.specs.Chains.{AreCellCosts};
+ghost use Rattle.bound_specs.specs.declared.Cell.{Cell as CellData};
+ghost use Rattle.bound_specs.specs.Cells.{IsCell};
+ghost use Rattle.bound_specs.specs.Chains.{AreCellCosts};
 
-use rail_specs::Cell;
+use bound_specs::Cell;
 
 /// The costs of the steps of a run, in 0.5 microjoule: of a step from one speed to another, and the low cost of a link, which
 /// is at most what a step costs from any speed of one cell to any speed of the next point's cell.

@@ -8,6 +8,7 @@ mod gap;
 mod item_list;
 mod lines;
 mod number;
+mod texts;
 
 pub use cell_cost::CellCost;
 pub use cost::{StepCost, Traction};
@@ -17,4 +18,5 @@ pub use lines::{Fields, Lines, text_lines};
 pub use number::{
     natural_within, put_number, read_count, read_digits, read_field, read_number, trim_spaces,
 };
-pub use rail_specs::Cell;
+pub use bound_specs::Cell;
+pub use texts::{put_line, put_number_line, put_spaced, put_word};

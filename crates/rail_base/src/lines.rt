@@ -3,7 +3,7 @@
 ghost use Rattle.std.specs.Prelude.{◌≡◌, ◌==◌};
 ghost use Rattle.std.specs.List.{position};
 ghost use Rattle.std.specs.Str.Lines.{lines};
-ghost use Rattle.rail_specs.specs.Lines.{fields_of};
+ghost use Rattle.rail_base.specs.Lines.{fields_of};
 
 use bstr::ByteSlice;
 pub use bstr::Lines;

@@ -3,7 +3,7 @@
 ghost use Rattle.std.specs.Prelude.{◌≡◌, ◌≤◌, ◌<◌, ◌^◌, ◌++◌, ℕ, pos, ◌≤ℤ◌, ◌<ℤ◌, Some, None, IfSome, option_map, is_ok, if◌then◌else◌};
 ghost use Rattle.std.specs.Fmt.{signed_decimal};
 ghost use Rattle.std.specs.Int.RustNames.{unsigned_abs};
-ghost use Rattle.rail_specs.specs.Numbers.{after_spaces, before_spaces, trimmed, digits_number, field_number, count_number, number_of, is_within};
+ghost use Rattle.rail_base.specs.Numbers.{after_spaces, before_spaces, trimmed, digits_number, field_number, count_number, number_of, is_within};
 
 use itoa::Buffer;
 use std::alloc::{AllocError, Global};

@@ -1,5 +1,5 @@
 -- What work costs, what a drive costs, and bounds of that.
-use Rattle.std.specs.Prelude.{ℕ, suc, zero, ◌≤◌, ℤ, pos, negsuc, ◌+ℤ◌, ◌-ℤ◌, ◌*ℤ◌, ◌≤ℤ◌, List, length}
+use Rattle.std.specs.Prelude.{ℕ, suc, zero, ◌*◌, ◌≤◌, ℤ, pos, negsuc, ◌+ℤ◌, ◌-ℤ◌, ◌*ℤ◌, ◌≤ℤ◌, List, length}
 use Rattle.std.specs.Int.RustNames.{unsigned_abs}
 use Rattle.rail_specs.specs.Rules.{Rules, work_at, IsDrive}
 use Rattle.rail_specs.specs.Times.{IsOnTimeDown}
@@ -30,6 +30,7 @@ cost_of cost r speeds = int_sum_below (λ i. cost (work_at r speeds i)) (length 
 abbrev pub IsBound : (ℤ → ℤ) → Rules → ℤ → Type 0
 IsBound cost r bound = (speeds : List ℕ) → IsDrive r speeds → IsOnTimeDown r speeds → bound ≤ℤ cost_of cost r speeds
 
--- energy and bound differ by at most the tolerance, in per mille of the energy
+-- energy and bound differ by at most the tolerance, in per mille of the size of the energy, which may be negative where braking gives
+-- energy back
 abbrev pub GapMet : ℤ → ℤ → ℕ → Type 0
-GapMet energy bound tolerance = (pos 1000 *ℤ (energy -ℤ bound)) ≤ℤ (pos tolerance *ℤ energy)
+GapMet energy bound tolerance = (pos 1000 *ℤ (energy -ℤ bound)) ≤ℤ pos (tolerance * unsigned_abs energy)

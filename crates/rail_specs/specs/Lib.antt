@@ -4,16 +4,4 @@ pub mod Rules
 pub mod Ranges
 pub mod Times
 pub mod Cost
-pub mod First
-pub mod Numbers
-pub mod Lines
-pub mod Route
-pub mod Faults
-pub mod Phase
-pub mod Report
-pub mod Plan
 pub mod Grid
-pub mod Cells
-pub mod Chains
-pub mod Prices
-pub mod Links

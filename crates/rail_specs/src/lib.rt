@@ -1,5 +1,5 @@
-//! The definitions of this repository: what a step, a force table, a drive, its times and its cost are, and what cells, chains,
-//! prices and a bound are.
+//! The definitions that every crate stands on: what a step, a force table, the rules of a run, a drive, its times, its cost and a
+//! bound are, and the places of a grid.
 //!
 //! The definitions stand in `specs/` and are listed in words in `docs/DEFINITIONS.md`. This file has the plain
 //! data that they speak of.
@@ -8,8 +8,6 @@
 ghost use Rattle.std.specs.Prelude.{◌≡◌};
 ghost use Rattle.rail_specs.specs.Ranges.{no_narrowing};
 ghost use Rattle.rail_specs.specs.Step.{step_of_train};
-
-use std::alloc::AllocError;
 
 /// What the work of a train's steps is computed from, beside their lengths and gradients: its masses and its resistance
 /// A + B v + C v^2 (Davis).
@@ -93,53 +91,5 @@ impl Narrow {
             idle_from: 0,
             idle_to: 0,
         }
-    }
-}
-
-/// An interval of speeds at a point, both ends in it.
-#[derive(Clone, Copy, PartialEq, Eq, Debug)]
-pub struct Cell {
-    /// The least speed, cm/s.
-    pub first: u16,
-    /// The greatest speed, cm/s: at least the least, and at most 12,000.
-    pub last: u16,
-}
-
-/// What a train does over a step. A step has the first of these that fits.
-#[derive(Clone, Copy, PartialEq, Eq, Debug)]
-pub enum Phase {
-    /// It keeps its speed.
-    Hold,
-    /// It gains speed with as much traction as it has: one speed more is above its top or its traction.
-    Power,
-    /// It rolls without traction, and could not be faster at the end without it.
-    Coast,
-    /// It brakes.
-    Brake,
-    /// It does anything else.
-    Part,
-}
-
-/// Why the text of a route was refused. Lines are counted from 1, and the first line that is refused counts.
-#[derive(Clone, Copy, PartialEq, Eq, Debug)]
-pub enum RouteFault {
-    /// The line is not of its form: it is missing, or says something else than a line at its place does.
-    Form(u32),
-    /// The line is of its form, and what it says is out of range.
-    Range(u32),
-    /// There are more than 4,000 steps.
-    TooManySteps,
-    /// The memory ran out.
-    NoMemory,
-}
-
-impl From<AllocError> for RouteFault {
-    ghost use Rattle.std.specs.Prelude.{◌≡◌};
-    ghost use Rattle.rail_specs.specs.declared.RouteFault.TheVariants.{NoMemory};
-
-    ghost from_gives = { λ _ e. e ≡ NoMemory };
-
-    fn from(_: AllocError) -> RouteFault {
-        RouteFault::NoMemory
     }
 }

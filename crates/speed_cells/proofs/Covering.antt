@@ -2,10 +2,10 @@
 use Rattle.std.proofs.Common.{ℕ, zero, suc, ◌≡◌, ◌<◌, ◌≤◌, ◌+◌, ◌-◌, List, [], ◌∷◌, length, get_or, add-one, inl, inr, arith}
 use Rattle.std.proofs.lemmas.Bool.{cases_lt}
 use Rattle.std.proofs.lemmas.List.{get_or_past}
-use Rattle.rail_specs.specs.declared.Cell.{Cell}
+use Rattle.bound_specs.specs.declared.Cell.{Cell}
 use Rattle.rail_specs.specs.Rules.{Rules, IsDrive, IsNarrowDrive}
 use Rattle.rail_specs.specs.Ranges.{no_narrowing}
-use Rattle.rail_specs.specs.Cells.{no_cell, cells_of, SomeHasSpeed, AreAdjacent, RunFrom, RunInside, CellsFit, CellsCover}
+use Rattle.bound_specs.specs.Cells.{no_cell, cells_of, SomeHasSpeed, AreAdjacent, RunFrom, RunInside, CellsFit, CellsCover}
 
 -- a speed from the first cell's least to the greatest of cell n is in one of the cells up to n
 has_below : (cs : List Cell) (v n : ℕ) → AreAdjacent cs → n < length cs → (get_or cs 0 no_cell).first ≤ v → v ≤ (get_or cs n no_cell).last →

@@ -4,10 +4,10 @@ use Rattle.std.specs.Prelude.{slice_set}
 use Rattle.std.proofs.lemmas.Bool.{cases_eq}
 use Rattle.std.proofs.lemmas.List.{get_or-map, length-map, length-set, get_or-set_same, get_or-set_other}
 use Rattle.std.proofs.lemmas.List.Elements.{All-from_get_or}
-use Rattle.rail_specs.specs.declared.Cell.{Cell}
+use Rattle.bound_specs.specs.declared.Cell.{Cell}
 use Rattle.rail_specs.specs.Rules.{Rules}
 use Rattle.rail_specs.specs.Ranges.{AreRanges, no_narrowing}
-use Rattle.rail_specs.specs.Cells.{cells_of, whole_cell, split_cells, RunFrom, CellsFit}
+use Rattle.bound_specs.specs.Cells.{cells_of, whole_cell, split_cells, RunFrom, CellsFit}
 use Rattle.speed_cells.specs.Laws.{CanSplit, ArePairs}
 use Rattle.speed_cells.proofs.Halves.{split_run}
 

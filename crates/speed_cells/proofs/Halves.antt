@@ -2,8 +2,8 @@
 use Rattle.std.proofs.Common.{ℕ, ◌≡◌, ◌<◌, ◌+◌, ◌-◌, ◌∙◌, List, ◌∷◌, length, get_or, take, drop, refl, sym, ap, inl, inr, suc, arith, length-append, length-take, length-drop}
 use Rattle.std.proofs.lemmas.Bool.{cases_eq, cases_order}
 use Rattle.std.proofs.lemmas.List.{get_or_append_left, get_or-take, get_or_at, get_or-append-add, get_or-drop}
-use Rattle.rail_specs.specs.declared.Cell.{Cell}
-use Rattle.rail_specs.specs.Cells.{no_cell, lower_half, upper_half, split_cells, IsCell, AreAdjacent, RunFrom}
+use Rattle.bound_specs.specs.declared.Cell.{Cell}
+use Rattle.bound_specs.specs.Cells.{no_cell, lower_half, upper_half, split_cells, IsCell, AreAdjacent, RunFrom}
 use Rattle.speed_cells.specs.Laws.{CanSplit}
 
 -- the cell that is split

@@ -6,8 +6,8 @@ use Rattle.std.proofs.lemmas.Bool.{cases_eq}
 use Rattle.std.proofs.lemmas.Bool.Decides.{nat_tests}
 use Rattle.std.proofs.lemmas.List.{get_or_read, get_or-map, length-map, ext_get_or}
 use Rattle.std.proofs.lemmas.List.FromFn.{length-map-range_with_len, get_or-map-range_with_len, sum_by-map-range_with_len_more}
-use Rattle.rail_specs.specs.declared.Cell.{Cell}
-use Rattle.rail_specs.specs.Cells.{cells_of, cell_at, cell_count, no_cell, whole_cell, IsCell, AreAdjacent}
+use Rattle.bound_specs.specs.declared.Cell.{Cell}
+use Rattle.bound_specs.specs.Cells.{cells_of, cell_at, cell_count, no_cell, whole_cell, IsCell, AreAdjacent}
 use Rattle.speed_cells.specs.declared.cells.Cells.TheInside.{Inside}
 use Rattle.speed_cells.specs.Layout.{count_at, first_at, above, cell_in, point_in, cells_in, IsLayout}
 

@@ -5,8 +5,8 @@ use Rattle.std.specs.Prelude.{slice_set}
 use Rattle.std.proofs.lemmas.Bool.{cases_lt, cases_eq, cases_order}
 use Rattle.std.proofs.lemmas.List.{ext_get_or, get_or-set_same, get_or-set_other, length-set}
 use Rattle.std.proofs.lemmas.List.Edits.{length-insert, get_or-insert_below, get_or-insert_at, get_or-insert_above}
-use Rattle.rail_specs.specs.declared.Cell.{Cell}
-use Rattle.rail_specs.specs.Cells.{cells_of, cell_at, cell_count, no_cell, middle, lower_half, upper_half, split_cells}
+use Rattle.bound_specs.specs.declared.Cell.{Cell}
+use Rattle.bound_specs.specs.Cells.{cells_of, cell_at, cell_count, no_cell, middle, lower_half, upper_half, split_cells}
 use Rattle.speed_cells.specs.Layout.{count_at, first_at, above, cell_in, point_in, cells_in, IsLayout}
 use Rattle.speed_cells.proofs.Points.{length-cells_in, cells_of-cells_in, length-point_in, get_or-point_in, above-next, above-last, starts_rise, cell_by, cell_of, counted, count_of, IsLaid, IsShown}
 use Rattle.speed_cells.specs.declared.cells.Cells.TheInside.{Inside}

@@ -1,7 +1,7 @@
 -- What the laws of cells speak of.
 use Rattle.std.specs.Prelude.{ℕ, ◌<◌, ◌+◌, ◌≡◌, List, length, slice_index, slice_index_or}
-use Rattle.rail_specs.specs.declared.Cell.{Cell}
-use Rattle.rail_specs.specs.Cells.{no_cell}
+use Rattle.bound_specs.specs.declared.Cell.{Cell}
+use Rattle.bound_specs.specs.Cells.{no_cell}
 use Rattle.rail_specs.specs.Rules.{Rules}
 
 -- cell c is one of these cells and has two or more speeds

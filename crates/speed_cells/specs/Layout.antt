@@ -2,7 +2,7 @@
 -- list and where they all end, and by the last speed of each point.
 use Rattle.std.specs.Prelude.{ℕ, ◌+◌, ◌-◌, ◌<◌, ◌≤◌, ◌≡◌, List, length, map, slice_index, if◌then◌else◌, nat_lt}
 use Rattle.std.specs.List.{range_with_len}
-use Rattle.rail_specs.specs.declared.Cell.{Cell}
+use Rattle.bound_specs.specs.declared.Cell.{Cell}
 
 -- how many cells point k has
 abbrev pub count_at : List ℕ → ℕ → ℕ

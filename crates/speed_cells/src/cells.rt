@@ -1,8 +1,8 @@
 //! The cells of all points of a run.
 ghost use Rattle.std.specs.Prelude.{◌≡◌, ℕ, ◌+◌, ◌<◌, ◌≤◌, ◌↔◌, ◌^◌, length, map, slice_index, slice_set, All, IfOk, OnOk, OnErr, IfSome, IfNone, IsTrue};
-ghost use Rattle.rail_specs.specs.Cells.{cells_of, cell_at, whole_cell, split_cells, cell_count, AreAdjacent, AreSingle, IsCell, HasSpeed, SomeHasSpeed};
+ghost use Rattle.bound_specs.specs.Cells.{cells_of, cell_at, whole_cell, split_cells, cell_count, AreAdjacent, AreSingle, IsCell, HasSpeed, SomeHasSpeed};
 
-use rail_specs::Cell;
+use bound_specs::Cell;
 use std::alloc::{AllocError, Global};
 use std::marker::Model;
 
@@ -21,7 +21,7 @@ pub struct Cells {
 
 impl Model for Cells {
     ghost use Rattle.std.specs.Prelude.{List};
-    ghost use Rattle.rail_specs.specs.declared.Cell.{Cell};
+    ghost use Rattle.bound_specs.specs.declared.Cell.{Cell};
     ghost use Rattle.speed_cells.specs.Layout.{cells_in, IsLayout};
 
     ghost Value = { List (List Cell) };

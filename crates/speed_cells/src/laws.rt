@@ -1,9 +1,9 @@
 //! Laws of cells, as the clauses of functions that do nothing.
 ghost use Rattle.std.specs.Prelude.{ℕ, ◌<◌, ◌≤◌, List, All, length, map, slice_set};
-ghost use Rattle.rail_specs.specs.declared.Cell.{Cell};
+ghost use Rattle.bound_specs.specs.declared.Cell.{Cell};
 ghost use Rattle.rail_specs.specs.Rules.{Rules};
 ghost use Rattle.rail_specs.specs.Ranges.{AreRanges, no_narrowing};
-ghost use Rattle.rail_specs.specs.Cells.{cells_of, whole_cell, split_cells, AreAdjacent, RunFrom, CellsFit, CellsCover};
+ghost use Rattle.bound_specs.specs.Cells.{cells_of, whole_cell, split_cells, AreAdjacent, RunFrom, CellsFit, CellsCover};
 ghost use Rattle.speed_cells.specs.Laws.{CanSplit, ArePairs};
 
 /// Cells that fit the rules cover them: every drive runs through them, where the train's top speed is one that a cell can have.

@@ -6,7 +6,7 @@ mod laws;
 
 pub use cells::Cells;
 pub use laws::{fitting_cells_cover, splitting_keeps_speeds, whole_cells_fit};
-pub use rail_specs::Cell;
+pub use bound_specs::Cell;
 
 #[cfg(test)]
 mod tests;

@@ -6,7 +6,7 @@ use Rattle.std.proofs.Math.ListN.{get_or-append}
 use Rattle.std.proofs.lemmas.Bool.{cases_lt}
 use Rattle.std.proofs.lemmas.Bool.Decides.{nat_tests}
 use Rattle.std.proofs.lemmas.List.{get_or_past}
-use Rattle.rail_specs.specs.Prices.{Prices, ArePrices, SumsByParts, charge, step_price}
+use Rattle.bound_specs.specs.Prices.{Prices, ArePrices, SumsByParts, charge, step_price}
 use Rattle.rail_specs.specs.Times.{sum_below}
 use Rattle.time_multipliers.specs.Steps.{StepsSumByParts, AreKept}
 use Rattle.time_multipliers.proofs.SumLemmas.{sum_below-same, sum_below-scale, sum_below-exchange, sum_below-past, sum_below-bound, sum_below-more}

@@ -1,6 +1,6 @@
 -- What the steps of a run pay at the prices of its timing points.
 use Rattle.std.specs.Prelude.{ℕ, ◌*◌, ◌<◌, ◌≤◌, ◌≡◌, List, length, slice_index}
-use Rattle.rail_specs.specs.Prices.{Prices, ArePrices, step_price}
+use Rattle.bound_specs.specs.Prices.{Prices, ArePrices, step_price}
 use Rattle.rail_specs.specs.Times.{sum_below}
 
 -- sums by parts over times that are any function of the step: where no timing point lies behind the n steps, what the steps pay at

@@ -1,6 +1,6 @@
 //! The prices of a run's timing points.
 ghost use Rattle.std.specs.Prelude.{◌≡◌, ℕ, ◌+◌, ◌*◌, ◌^◌, ◌<◌, ◌≤◌, length, slice_index, IfOk};
-ghost use Rattle.rail_specs.specs.Prices.{ArePrices, SumsByParts, step_price};
+ghost use Rattle.bound_specs.specs.Prices.{ArePrices, SumsByParts, step_price};
 ghost use Rattle.time_multipliers.specs.Steps.{StepsSumByParts};
 
 use std::alloc::{AllocError, Global};
@@ -21,7 +21,7 @@ pub struct Prices {
 }
 
 impl Model for Prices {
-    ghost use Rattle.rail_specs.specs.Prices.{Prices as PriceData};
+    ghost use Rattle.bound_specs.specs.Prices.{Prices as PriceData};
 
     ghost Value = { PriceData };
 

@@ -5,7 +5,7 @@ use Rattle.std.specs.List.{range_with_len}
 use Rattle.std.specs.Str.{is_utf8}
 use Rattle.toml.specs.Data.{Data, Items, no_items, item, Members, get_member, as_array, as_integer}
 use Rattle.toml.specs.Parse.{parse_document}
-use Rattle.rail_specs.specs.Numbers.{is_within}
+use Rattle.rail_base.specs.Numbers.{is_within}
 use Rattle.rail_specs.specs.Table.{force, top_speed}
 use Rattle.force_table.specs.Fault.{table_fault}
 use Rattle.force_table.specs.declared.fault.TableFault.{TableFault}

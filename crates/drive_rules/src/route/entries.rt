@@ -2,16 +2,17 @@
 
 ghost use Rattle.std.specs.Prelude.{[], ◌≡◌, ◌+◌, ◌&&◌, ℕ, ◌≤◌, pos, negsuc, Some, None, length, codes, IfOk, IfSome, OnOk, count_by, if◌then◌else◌};
 ghost use Rattle.std.specs.Int.RustNames.{unsigned_abs};
-ghost use Rattle.rail_specs.specs.First.{first_in};
-ghost use Rattle.rail_specs.specs.Numbers.{is_within};
-ghost use Rattle.rail_specs.specs.Route.{entry_faults, is_step_line, step_fault, step_on, steps_on, unless};
+ghost use Rattle.rail_base.specs.First.{first_in};
+ghost use Rattle.rail_base.specs.Numbers.{is_within};
+ghost use Rattle.drive_rules.specs.Route.{entry_faults, is_step_line, step_fault, step_on, steps_on, unless};
 ghost use Rattle.rail_specs.specs.Step.{step_of_train, IsInRange, IsTrainInRange};
 ghost use Rattle.drive_rules.specs.RouteParts.{step_line, AnswersFault, AppendsStep, CountsEntry, HasSteps, IsEmpty, ReadsEntry};
 
 use crate::route::data::{Entry, StepLine, StepLists};
 use crate::route::line::read_after;
 use rail_base::{Lines, natural_within};
-use rail_specs::{RouteFault, StepNumbers, TrainNumbers};
+use crate::route::fault::RouteFault;
+use rail_specs::{StepNumbers, TrainNumbers};
 use std::alloc::{AllocError, Global};
 use std::sync::ledger::Ledger;
 use step_energy::{StepRow, Steps};

@@ -1,16 +1,17 @@
 //! The lines of a route before its steps.
 
 ghost use Rattle.std.specs.Prelude.{◌≡◌, ◌∷◌, [], ℕ, ◌≤◌, pos, Some, None, length, drop, codes, IfOk, IfSome, if◌then◌else◌};
-ghost use Rattle.rail_specs.specs.First.{first_in};
-ghost use Rattle.rail_specs.specs.Lines.{is_line, line_at, numbers_at, size};
-ghost use Rattle.rail_specs.specs.Route.{form_then_range, heading_faults, is_one, is_train, train_line, train_numbers, unless};
+ghost use Rattle.rail_base.specs.First.{first_in};
+ghost use Rattle.rail_base.specs.Lines.{is_line, line_at, numbers_at, size};
+ghost use Rattle.drive_rules.specs.Route.{form_then_range, heading_faults, is_one, is_train, train_line, train_numbers, unless};
 ghost use Rattle.rail_specs.specs.Step.{IsTrainInRange};
 ghost use Rattle.drive_rules.specs.RouteParts.{heading_of, IsHeading};
 
 use crate::route::data::Heading;
 use crate::route::line::take_numbers;
 use rail_base::{Lines, natural_within};
-use rail_specs::{RouteFault, TrainNumbers};
+use crate::route::fault::RouteFault;
+use rail_specs::TrainNumbers;
 
 /// Takes the first line of a route.
 fn read_title(lines: &mut Lines<'_>) -> Result<(), RouteFault>

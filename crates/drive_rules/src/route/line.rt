@@ -1,7 +1,7 @@
 //! Numbers on the lines of a text.
 
 ghost use Rattle.std.specs.Prelude.{◌≡◌, Some, None, length, drop, MatchBool};
-ghost use Rattle.rail_specs.specs.Lines.{numbers_in, numbers_after, numbers_at};
+ghost use Rattle.rail_base.specs.Lines.{numbers_in, numbers_after, numbers_at};
 
 use rail_base::{Fields, Lines, read_field};
 

@@ -1,7 +1,7 @@
 use Rattle.std.proofs.Common.{List, ℕ, codes}
 use Rattle.train_file.specs.declared.train.Train.{Train}
 use Rattle.train_file.specs.TrainText.{train_of}
-use Rattle.rail_specs.specs.Faults.{Told}
+use Rattle.edge_io.specs.Faults.{Told}
 use Rattle.advice_run.specs.Outcome.{AfterLine, AfterTrain}
 use Rattle.advice_run.specs.FaultWords.{train_fault_words}
 use Rattle.advice_run.specs.declared.answer.Answer.{Answer}

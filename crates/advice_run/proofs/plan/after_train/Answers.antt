@@ -1,7 +1,7 @@
 use Rattle.std.proofs.Common.{List, ℕ, codes}
 use Rattle.line_file.specs.declared.service.Service.{Service}
 use Rattle.line_file.specs.ServiceText.{service_of}
-use Rattle.rail_specs.specs.Faults.{Told}
+use Rattle.edge_io.specs.Faults.{Told}
 use Rattle.advice_run.specs.Outcome.{AfterTrain, IsJoinedAnswer}
 use Rattle.advice_run.specs.FaultWords.{service_fault_words}
 use Rattle.advice_run.specs.declared.answer.Answer.{Answer}

@@ -1,7 +1,7 @@
 use Rattle.std.proofs.Common.{List, ℕ, codes}
 use Rattle.line_file.specs.declared.line.Line.{Line}
 use Rattle.line_file.specs.LineText.{line_of}
-use Rattle.rail_specs.specs.Faults.{Told}
+use Rattle.edge_io.specs.Faults.{Told}
 use Rattle.advice_run.specs.Words.{Plan}
 use Rattle.advice_run.specs.Outcome.{AfterLine, MayWrite}
 use Rattle.advice_run.specs.FaultWords.{line_fault_words}

@@ -1,6 +1,7 @@
 use Rattle.std.proofs.Common.{arith, codes, ◌≢◌}
 use Rattle.drive_rules.specs.declared.joined.fault.RulesFault.TheVariants.{NoMemory}
-use Rattle.rail_specs.specs.Plan.{IsPlanAnswer}
+use Rattle.rail_specs.specs.Cost.{traction_cost}
+use Rattle.advice_run.specs.Plan.{IsPlanAnswer}
 use Rattle.advice_run.specs.Outcome.{IsJoinedAnswer, IsRefusal}
 use Rattle.advice_run.specs.FaultWords.{rules_fault_words}
 use Rattle.advice_run.specs.declared.answer.Answer.{Answer}
@@ -16,7 +17,7 @@ returns-in-Ok g c =
     let w = c.args.asked.now in
     let f = c.fresh-setup.ensures in
     let fresh = fresh_is c.fresh-setup.result c.args.service.now w.step f.step f.place f.speed f.clock f.stretches in
-    ok_map c.rules_answer.result (λ (a : Answer). IsPlanAnswer c.in-Ok.rules w.tolerance a.status a.text.items)
+    ok_map c.rules_answer.result (λ (a : Answer). IsPlanAnswer traction_cost c.in-Ok.rules w.tolerance a.status a.text.items)
     (λ (a : Answer). IsJoinedAnswer c.args.line.now c.args.train.now w.step w.tolerance c.args.service.now a.status a.text.items)
     (λ a h. joined_plan c.args.line.now c.args.train.now c.args.service.now w.step w.tolerance c.fresh-setup.result c.in-Ok.rules a.status a.text.items fresh c.in-Ok.ensures.joined h)
     c.rules_answer.ensures

@@ -1,8 +1,9 @@
 use Rattle.std.proofs.Common.{List, ℕ, codes}
-use Rattle.rail_specs.specs.Plan.{IsPlanAnswer}
+use Rattle.rail_specs.specs.Cost.{traction_cost}
+use Rattle.advice_run.specs.Plan.{IsPlanAnswer}
 use Rattle.rail_specs.specs.Rules.{Rules}
-use Rattle.rail_specs.specs.Route.{rules_of_text}
-use Rattle.rail_specs.specs.Faults.{Told}
+use Rattle.drive_rules.specs.Route.{rules_of_text}
+use Rattle.edge_io.specs.Faults.{Told}
 use Rattle.advice_run.specs.Outcome.{MayWrite}
 use Rattle.advice_run.specs.FaultWords.{route_fault_words}
 use Rattle.advice_run.specs.Words.{Route}
@@ -19,11 +20,11 @@ returns-in-Read-clause-may g c =
     let says = rw c.in-Read.is at c.in_ok-rules.ensures.stage in
     ok_map c.rules_answer.result (λ (a : Answer). IsPlanAnswer c.in-Read.rules c.args.asked.now.tolerance a.status a.text.items)
     (λ (a : Answer). MayWrite (Route c.args.asked.now.file.now c.args.asked.now.tolerance) told before now a.status a.text.items)
-    (λ a h. goes_on (codes "route") c.args.asked.now.file.now told before now rules_of_text route_fault_words (λ (r : Rules). IsPlanAnswer r c.args.asked.now.tolerance) c.in-Read.rules a.status a.text.items says h)
+    (λ a h. goes_on (codes "route") c.args.asked.now.file.now told before now rules_of_text route_fault_words (λ (r : Rules). IsPlanAnswer traction_cost r c.args.asked.now.tolerance) c.in-Read.rules a.status a.text.items says h)
     c.rules_answer.ensures
 
 pub returns-in-Ends-clause-may : goal.returns-in-Ends-clause-may
 returns-in-Ends-clause-may g c =
     let ends = rw c.in-Ends.is at c.in_ok-rules.ensures.stage in
     ends_there (codes "route") c.args.asked.now.file.now (g.S.Shelf.contents c.args.shelf.now) (g.S.Shelf.faults c.args.shelf.now) (g.S.Shelf.faults c.route_stage.new.shelf)
-    rules_of_text route_fault_words (λ (r : Rules). IsPlanAnswer r c.args.asked.now.tolerance) c.in-Ends.answer.status c.in-Ends.answer.text.items ends
+    rules_of_text route_fault_words (λ (r : Rules). IsPlanAnswer traction_cost r c.args.asked.now.tolerance) c.in-Ends.answer.status c.in-Ends.answer.text.items ends

@@ -1,5 +1,5 @@
 use Rattle.std.proofs.Common.{◌∙◌, ap}
-use Rattle.rail_specs.specs.Report.{late_text}
+use Rattle.drive_report.specs.Report.{late_text}
 use Rattle.advice_run.proofs.AnswerLemmas.{late_answer}
 use Rattle.advice_run.proofs.rules.late_answer.Goals as goal
 

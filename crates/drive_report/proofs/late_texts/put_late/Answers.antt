@@ -4,7 +4,7 @@ use Rattle.std.proofs.lemmas.Int.{ints}
 use mir.Syntax.{w64, w128}
 use Rattle.rail_specs.specs.declared.Timing.{Timing}
 use Rattle.rail_specs.specs.Rules.{no_timing, timing_at}
-use Rattle.rail_specs.specs.Report.{spaced}
+use Rattle.rail_base.specs.Texts.{spaced}
 use Rattle.drive_report.proofs.AppendLemmas.{appended_five}
 use Rattle.drive_report.proofs.late_texts.put_late.Goals as goal
 

@@ -1,7 +1,8 @@
 use Rattle.std.proofs.Common.{arith, ◌≡◌, ◌∙◌, ap, to_z, of_z, codes}
 use Rattle.std.proofs.lemmas.Int.{ints}
 use mir.Syntax.{w128}
-use Rattle.rail_specs.specs.Report.{kilojoules_of, number_line}
+use Rattle.rail_base.specs.Texts.{number_line}
+use Rattle.drive_report.specs.Report.{kilojoules_of}
 use Rattle.drive_report.proofs.AppendLemmas.{appended_three}
 use Rattle.drive_report.proofs.reports.put_energy.Goals as goal
 

@@ -1,5 +1,5 @@
 use Rattle.std.proofs.Common.{arith}
-use Rattle.rail_specs.specs.Report.{ends_run}
+use Rattle.drive_report.specs.Report.{ends_run}
 use Rattle.drive_report.proofs.RunLemmas.{begun_goes_on, run_goes_on, phase_lines_more}
 use Rattle.drive_report.proofs.reports.put_phases.Goals as goal
 

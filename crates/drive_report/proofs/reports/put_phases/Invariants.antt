@@ -1,5 +1,5 @@
 use Rattle.std.proofs.Common.{◌≡◌, ◌++◌, ◌<◌, ◌≤◌, length}
-use Rattle.rail_specs.specs.Report.{run_start, phase_lines}
+use Rattle.drive_report.specs.Report.{run_start, phase_lines}
 use Rattle.drive_report.proofs.reports.put_phases.Given as goal
 
 abbrev pub invariant-loop-i : goal.invariant-loop-i

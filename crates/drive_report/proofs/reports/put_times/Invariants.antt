@@ -1,6 +1,6 @@
 use Rattle.std.proofs.Common.{◌≡◌, ◌++◌, take}
 use Rattle.std.specs.List.{flat_map}
-use Rattle.rail_specs.specs.Report.{time_line}
+use Rattle.drive_report.specs.Report.{time_line}
 use Rattle.drive_report.proofs.reports.put_times.Given as goal
 
 abbrev pub invariant-loop-j : goal.invariant-loop-j

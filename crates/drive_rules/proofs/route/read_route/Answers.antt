@@ -1,5 +1,5 @@
 use Rattle.std.proofs.Common.{rules, ◌≡◌, ◌∙◌, Ok, Err, ap}
-use Rattle.rail_specs.specs.Route.{is_step_line}
+use Rattle.drive_rules.specs.Route.{is_step_line}
 use Rattle.drive_rules.proofs.RouteWhole.{heading_refused, entries_refused, makes, count_behind, rules_on, IsBehind}
 use Rattle.drive_rules.proofs.route.read_route.Goals as goal
 

@@ -1,5 +1,5 @@
 use Rattle.std.proofs.Common.{length, ◌-◌, ◌≤◌, take}
-use Rattle.rail_specs.specs.Faults.{Appends}
+use Rattle.edge_io.specs.Faults.{Appends}
 use Rattle.edge_io.proofs.sink.put_all.Given as goal
 
 abbrev pub invariant-loop-at : goal.invariant-loop-at

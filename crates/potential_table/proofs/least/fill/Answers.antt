@@ -1,7 +1,7 @@
 use Rattle.std.proofs.Common.{ℕ, ◌≡◌, ◌+◌, ◌-◌, ◌<◌, ◌≤◌, ◌∙◌, Option, List, length, get_or, ap, sym, subst, arith}
 use Rattle.std.specs.Prelude.{ℤ}
-use Rattle.rail_specs.specs.declared.Cell.{Cell}
-use Rattle.rail_specs.specs.Cells.{cells_of, no_cell}
+use Rattle.bound_specs.specs.declared.Cell.{Cell}
+use Rattle.bound_specs.specs.Cells.{cells_of, no_cell}
 use Rattle.potential_table.specs.declared.ways.Way.{Way}
 use Rattle.potential_table.specs.Filling.{value_from, AreStarts, IsFilled}
 use Rattle.potential_table.specs.Ways.{AreWays, AreLeastByWays, AreUsable}

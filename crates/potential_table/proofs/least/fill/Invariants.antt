@@ -1,6 +1,6 @@
 use Rattle.std.proofs.Common.{length}
 use Rattle.std.specs.Prelude.{slice_index}
-use Rattle.rail_specs.specs.Cells.{cells_of}
+use Rattle.bound_specs.specs.Cells.{cells_of}
 use Rattle.potential_table.specs.Filling.{value_from, IsFilled}
 use Rattle.potential_table.specs.Ways.{AreWays}
 use Rattle.potential_table.proofs.least.fill.Given as goal

@@ -1,5 +1,5 @@
 use Rattle.std.proofs.Common.{ℕ, ◌≡◌, ◌+◌, ◌<◌, ◌≤◌, length, get_or}
-use Rattle.rail_specs.specs.Cells.{no_cell}
+use Rattle.bound_specs.specs.Cells.{no_cell}
 use Rattle.potential_table.specs.Filling.{value_in, value_from, IsLeastOf}
 use Rattle.potential_table.specs.Ways.{by_way}
 use Rattle.potential_table.proofs.least.fill_point.Given as goal

@@ -1,6 +1,6 @@
 use Rattle.std.proofs.Common.{◌≡◌, ◌+◌, ◌∙◌, None, Some, Option, List, length, get_or, subst, sym, ap, arith, rules, pos}
 use Rattle.std.specs.Prelude.{ℤ}
-use Rattle.rail_specs.specs.Cells.{cells_of}
+use Rattle.bound_specs.specs.Cells.{cells_of}
 use Rattle.potential_table.proofs.StartLemmas.{starts_pushed, starts_all, none_more}
 use Rattle.potential_table.proofs.least.lay_out.Goals as goal
 

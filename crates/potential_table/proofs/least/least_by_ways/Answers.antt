@@ -2,7 +2,7 @@ use Rattle.std.proofs.Common.{ℕ, ◌≡◌, ◌∙◌, ap, Option, Some, to_z,
 use Rattle.std.specs.Int.{w128}
 use Rattle.std.specs.Prelude.{ℤ}
 use Rattle.std.proofs.lemmas.Int.{ints}
-use Rattle.rail_specs.specs.Chains.{plus}
+use Rattle.bound_specs.specs.Chains.{plus}
 use Rattle.potential_table.specs.declared.ways.Way.{Way}
 use Rattle.potential_table.specs.Filling.{lesser, sum_found}
 use Rattle.potential_table.specs.Ways.{way_at, by_way}

@@ -2,7 +2,7 @@ use Rattle.std.proofs.Common.{◌≡◌, ◌-◌, ◌^◌, ◌∙◌, ap, subst,
 use Rattle.std.specs.Int.{w128}
 use Rattle.std.specs.Prelude.{ℤ, ◌+ℤ◌, ◌<ℤ◌}
 use Rattle.std.proofs.lemmas.Int.{ints}
-use Rattle.rail_specs.specs.Chains.{plus, IsSmall}
+use Rattle.bound_specs.specs.Chains.{plus, IsSmall}
 use Rattle.potential_table.specs.Filling.{lesser, sum_found}
 use Rattle.potential_table.proofs.LeastLemmas.{found_lesser}
 use Rattle.potential_table.proofs.least.least_with.Goals as goal

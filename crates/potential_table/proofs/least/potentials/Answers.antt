@@ -1,8 +1,8 @@
 use Rattle.std.proofs.Common.{ℕ, ◌≡◌, ◌+◌, ◌<◌, ◌∙◌, None, Some, Option, List, length, get_or, take, drop, ◌++◌, subst, sym, ap, arith, pos}
 use Rattle.std.proofs.Math.Seq.{take-append_seam}
 use Rattle.std.specs.Prelude.{ℤ}
-use Rattle.rail_specs.specs.Cells.{cells_of}
-use Rattle.rail_specs.specs.Chains.{ArePotentials, WeakDuality}
+use Rattle.bound_specs.specs.Cells.{cells_of}
+use Rattle.bound_specs.specs.Chains.{ArePotentials, WeakDuality}
 use Rattle.potential_table.specs.Filling.{IsFilled}
 use Rattle.potential_table.proofs.Duality.{adjacent_cells, weak_duality}
 use Rattle.potential_table.proofs.TableLemmas.{filled_last, potentials_of}

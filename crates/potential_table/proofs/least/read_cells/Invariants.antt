@@ -1,5 +1,5 @@
 use Rattle.std.proofs.Common.{◌≡◌, take}
-use Rattle.rail_specs.specs.Cells.{cells_of}
+use Rattle.bound_specs.specs.Cells.{cells_of}
 use Rattle.potential_table.specs.Filling.{AreCells}
 use Rattle.potential_table.proofs.least.read_cells.Given as goal
 

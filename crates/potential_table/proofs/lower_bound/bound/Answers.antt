@@ -1,7 +1,7 @@
 use Rattle.std.proofs.Common.{◌≡◌, sym, subst, to_z, of_z}
 use Rattle.std.specs.Int.{w128}
 use Rattle.std.specs.Prelude.{ℤ, ◌-ℤ◌}
-use Rattle.rail_specs.specs.Prices.{priced_slack}
+use Rattle.bound_specs.specs.Prices.{priced_slack}
 use Rattle.potential_table.specs.Bounds.{GivesBound}
 use Rattle.potential_table.proofs.BoundLemmas.{gives_bound, wide_difference}
 use Rattle.potential_table.proofs.lower_bound.bound.Goals as goal

@@ -1,5 +1,5 @@
 use Rattle.std.proofs.Common.{length, ◌≡◌, ◌≤◌, take}
-use Rattle.rail_specs.specs.Numbers.{before_spaces}
+use Rattle.rail_base.specs.Numbers.{before_spaces}
 use Rattle.rail_base.proofs.number.drop_back_spaces.Given as goal
 
 abbrev pub invariant-loop-to : goal.invariant-loop-to

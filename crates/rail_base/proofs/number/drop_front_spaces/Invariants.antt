@@ -1,5 +1,5 @@
 use Rattle.std.proofs.Common.{length, ◌-◌, ◌≡◌, ◌≤◌, drop}
-use Rattle.rail_specs.specs.Numbers.{after_spaces}
+use Rattle.rail_base.specs.Numbers.{after_spaces}
 use Rattle.rail_base.proofs.number.drop_front_spaces.Given as goal
 
 abbrev pub invariant-loop-from : goal.invariant-loop-from

@@ -1,5 +1,5 @@
 use Rattle.std.proofs.Common.{◌≡◌, ◌≤◌, ◌*◌, ◌^◌}
-use Rattle.rail_specs.specs.Prices.{charge}
+use Rattle.bound_specs.specs.Prices.{charge}
 use Rattle.rail_specs.specs.Times.{sum_below}
 use Rattle.time_multipliers.proofs.prices.price_behind.Given as goal
 

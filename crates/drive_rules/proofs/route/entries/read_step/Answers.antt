@@ -2,7 +2,7 @@ use Rattle.std.proofs.Common.{◌≡◌, true, rules, refl, ◌∙◌, pos, get_
 use Rattle.std.proofs.lemmas.Int.{to_z-of_z}
 use mir.Val.{SFits}
 use Rattle.std.specs.Int.RustNames.{unsigned_abs}
-use Rattle.rail_specs.specs.Numbers.{is_within}
+use Rattle.rail_base.specs.Numbers.{is_within}
 use Rattle.drive_rules.proofs.NumbersRead.{some_then, none_then}
 use Rattle.drive_rules.proofs.RouteEntries.{step-made, limit-refused, drag-refused}
 use Rattle.drive_rules.proofs.route.entries.read_step.Goals as goal

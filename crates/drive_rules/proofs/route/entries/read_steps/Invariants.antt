@@ -1,6 +1,6 @@
 use Rattle.std.proofs.Common.{◌≡◌, ◌+◌, ◌*◌, ◌≤◌, length, count_by}
-use Rattle.rail_specs.specs.First.{first_in}
-use Rattle.rail_specs.specs.Route.{entry_faults, is_step_line, steps_on}
+use Rattle.rail_base.specs.First.{first_in}
+use Rattle.drive_rules.specs.Route.{entry_faults, is_step_line, steps_on}
 use Rattle.drive_rules.specs.RouteParts.{HasSteps}
 use Rattle.drive_rules.proofs.route.entries.read_steps.Given as goal
 

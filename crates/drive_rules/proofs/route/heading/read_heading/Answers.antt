@@ -1,7 +1,7 @@
 use Rattle.std.proofs.Common.{refl, rules, ◌≡◌, drop, List, ℕ, ℤ, Option}
 use Rattle.std.specs.Prelude.{codes}
-use Rattle.rail_specs.specs.Lines.{size}
-use Rattle.rail_specs.specs.Route.{is_one, is_train, train_numbers}
+use Rattle.rail_base.specs.Lines.{size}
+use Rattle.drive_rules.specs.Route.{is_one, is_train, train_numbers}
 use Rattle.drive_rules.proofs.RouteHeading.{unless-ok, taken, line_good, line_bad}
 use Rattle.drive_rules.proofs.route.heading.read_heading.Goals as goal
 

@@ -2,7 +2,7 @@ use Rattle.std.proofs.Common.{◌≡◌, ◌≤◌, ◌*◌, ◌^◌, None}
 use Rattle.std.specs.Int.RustNames.{unsigned_abs}
 use Rattle.rail_specs.specs.Rules.{work_at}
 use Rattle.rail_specs.specs.Cost.{int_sum_below}
-use Rattle.rail_specs.specs.First.{first_below}
+use Rattle.rail_base.specs.First.{first_below}
 use Rattle.drive_rules.specs.Verdict.{step_fault}
 use Rattle.drive_rules.proofs.rules.Rules.steps_cost.Given as goal
 

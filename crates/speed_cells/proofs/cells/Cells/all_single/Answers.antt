@@ -1,6 +1,6 @@
 use Rattle.std.proofs.Common.{arith, List, [], All, refl, ◌≡◌}
 use Rattle.std.proofs.lemmas.List.Elements.{All-from_get_or}
-use Rattle.rail_specs.specs.declared.Cell.{Cell}
+use Rattle.bound_specs.specs.declared.Cell.{Cell}
 use Rattle.speed_cells.proofs.cells.Cells.all_single.Goals as goal
 
 pub returns : goal.returns

@@ -1,6 +1,6 @@
 use Rattle.std.proofs.Common.{ℕ, ◌<◌, ◌≡◌, All}
-use Rattle.rail_specs.specs.Cells.{cells_of}
-use Rattle.rail_specs.specs.declared.Cell.{Cell}
+use Rattle.bound_specs.specs.Cells.{cells_of}
+use Rattle.bound_specs.specs.declared.Cell.{Cell}
 use Rattle.speed_cells.proofs.cells.Cells.all_single.Given as goal
 
 abbrev pub invariant-loop-point : goal.invariant-loop-point

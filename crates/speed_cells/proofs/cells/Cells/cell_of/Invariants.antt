@@ -1,5 +1,5 @@
 use Rattle.std.proofs.Common.{ℕ, ◌<◌}
-use Rattle.rail_specs.specs.Cells.{cell_at, HasSpeed}
+use Rattle.bound_specs.specs.Cells.{cell_at, HasSpeed}
 use Rattle.speed_cells.proofs.cells.Cells.cell_of.Given as goal
 
 abbrev pub invariant-loop-c : goal.invariant-loop-c

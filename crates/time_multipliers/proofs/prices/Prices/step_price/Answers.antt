@@ -1,5 +1,5 @@
 use Rattle.std.proofs.Common.{◌≡◌, arith, rules}
-use Rattle.rail_specs.specs.Prices.{step_price}
+use Rattle.bound_specs.specs.Prices.{step_price}
 use Rattle.time_multipliers.proofs.PriceLemmas.{step_price-small}
 use Rattle.time_multipliers.proofs.prices.Prices.step_price.Goals as goal
 

@@ -4,7 +4,7 @@ use Rattle.std.specs.Prelude.{ℕ, ◌-◌, ◌==◌, ℤ, pos, Bool, false, Lis
 use Rattle.std.specs.Int.RustNames.{unsigned_abs}
 use Rattle.std.specs.List.{slice_split, starts_with}
 use Rattle.std.specs.Str.{bytes_eq}
-use Rattle.rail_specs.specs.Numbers.{field_number}
+use Rattle.rail_base.specs.Numbers.{field_number}
 
 -- the line with this number, counted from 1, where the text has one
 abbrev pub line_at : List (List ℕ) → ℕ → Option (List ℕ)

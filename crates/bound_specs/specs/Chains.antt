@@ -1,8 +1,8 @@
 -- Chains of cells and what they cost, over any cost of links; and weak duality.
 use Rattle.std.specs.Prelude.{ℕ, ◌+◌, ◌^◌, ◌<◌, ◌≤◌, ◌≡◌, ℤ, pos, ◌+ℤ◌, ◌≤ℤ◌, List, [], ◌∷◌, Option, Some, None, IfSome, length, drop, slice_index_or, Contains, ⊤}
 use Rattle.std.specs.Int.RustNames.{unsigned_abs}
-use Rattle.rail_specs.specs.declared.Cell.{Cell}
-use Rattle.rail_specs.specs.Cells.{cells_of, cell_at, IsCell, HasSpeed, IsInside, single, RunInside}
+use Rattle.bound_specs.specs.declared.Cell.{Cell}
+use Rattle.bound_specs.specs.Cells.{cells_of, cell_at, IsCell, HasSpeed, IsInside, single, RunInside}
 
 -- the sum of two numbers, none where either is none
 abbrev pub plus : Option ℤ → Option ℤ → Option ℤ

@@ -3,13 +3,13 @@ use Rattle.std.specs.Prelude.{filter, ℕ, ◌+◌, ◌*◌, ◌&&◌, ℤ, pos,
 use Rattle.std.specs.Int.RustNames.{unsigned_abs}
 use Rattle.std.specs.Str.{bytes_eq}
 use Rattle.std.specs.Str.Lines.{lines}
-use Rattle.rail_specs.specs.declared.RouteFault.{RouteFault}
-use Rattle.rail_specs.specs.declared.RouteFault.TheVariants.{Form, Range, TooManySteps}
+use Rattle.drive_rules.specs.declared.route.fault.RouteFault.{RouteFault}
+use Rattle.drive_rules.specs.declared.route.fault.RouteFault.TheVariants.{Form, Range, TooManySteps}
 use Rattle.rail_specs.specs.declared.StepNumbers.{StepNumbers}
 use Rattle.rail_specs.specs.declared.TrainNumbers.{TrainNumbers}
-use Rattle.rail_specs.specs.First.{first_in}
-use Rattle.rail_specs.specs.Lines.{line_at, is_line, begins, numbers_after, numbers_at, number, size}
-use Rattle.rail_specs.specs.Numbers.{is_within}
+use Rattle.rail_base.specs.First.{first_in}
+use Rattle.rail_base.specs.Lines.{line_at, is_line, begins, numbers_after, numbers_at, number, size}
+use Rattle.rail_base.specs.Numbers.{is_within}
 use Rattle.rail_specs.specs.Rules.{Rules}
 use Rattle.rail_specs.specs.Step.{step_of_train}
 

@@ -6,19 +6,7 @@ use Rattle.std.specs.Fmt.{signed_decimal}
 use Rattle.rail_specs.specs.declared.Timing.{Timing}
 use Rattle.rail_specs.specs.Rules.{Rules, timing_at}
 use Rattle.rail_specs.specs.Times.{arrival_up}
-use Rattle.rail_specs.specs.Phase.{phase_at, phase_name, is_same}
-
--- a line of a text
-abbrev pub line : List ℕ → List ℕ
-line text = text ++ 10 ∷ []
-
--- a space and a number
-abbrev pub spaced : ℤ → List ℕ
-spaced n = 32 ∷ signed_decimal n
-
--- a line of a word and a number
-unfoldable pub number_line : List ℕ → ℤ → List ℕ
-number_line word n = line (word ++ spaced n)
+use Rattle.drive_report.specs.Phase.{phase_at, phase_name, is_same}
 
 -- the first line of each answer
 unfoldable pub head_line : List ℕ

@@ -1,7 +1,7 @@
 -- Cells: the speeds at each point, parted into adjacent intervals.
 -- What is listed for a point's cells is listed in the order of their speeds, and cells are listed point by point.
 use Rattle.std.specs.Prelude.{ℕ, ◌+◌, ◌-◌, ◌/◌, ◌<◌, ◌≤◌, ◌≡◌, List, [], ◌∷◌, ◌++◌, length, take, drop, slice_index, slice_index_or, sum_by, All, ⊤}
-use Rattle.rail_specs.specs.declared.Cell.{Cell}
+use Rattle.bound_specs.specs.declared.Cell.{Cell}
 use Rattle.rail_specs.specs.Rules.{Rules, IsDrive}
 use Rattle.rail_specs.specs.Ranges.{AreRanges, no_narrowing}
 

@@ -2,13 +2,13 @@
 use Rattle.std.specs.Prelude.{◌≡◌, ℕ, pos, [], ◌∷◌, Some, None, true, false, replicate}
 use Rattle.std.proofs.Common.{refl}
 use Rattle.rail_specs.specs.declared.StepNumbers.{StepNumbers}
-use Rattle.rail_specs.specs.declared.Cell.{Cell}
+use Rattle.bound_specs.specs.declared.Cell.{Cell}
 use Rattle.rail_specs.specs.Rules.{Rules}
 use Rattle.rail_specs.specs.Cost.{traction_cost}
-use Rattle.rail_specs.specs.Cells.{split_cells, whole_cell, cell_count, single}
-use Rattle.rail_specs.specs.Chains.{cost_along}
-use Rattle.rail_specs.specs.Prices.{Prices, step_price, priced_slack}
-use Rattle.rail_specs.specs.Links.{Pricing, low_cost, priced_cost}
+use Rattle.bound_specs.specs.Cells.{split_cells, whole_cell, cell_count, single}
+use Rattle.bound_specs.specs.Chains.{cost_along}
+use Rattle.bound_specs.specs.Prices.{Prices, step_price, priced_slack}
+use Rattle.bound_specs.specs.Links.{Pricing, low_cost, priced_cost}
 
 abbrev level : StepNumbers
 level = record { mass = 1000; inertia = 1000; a = 1000; b = 0; c = 0; metres = 100; gradient = pos 0 }

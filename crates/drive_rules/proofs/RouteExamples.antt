@@ -1,8 +1,8 @@
 -- The example route and some refused texts, read by the definitions.
 use Rattle.std.proofs.Common.{ℕ, ◌≡◌, List, [], ◌∷◌, ◌++◌, Ok, Err, true, false, refl}
 use Rattle.std.specs.Prelude.{pos, negsuc, codes}
-use Rattle.rail_specs.specs.declared.RouteFault.TheVariants.{Form, Range}
-use Rattle.rail_specs.specs.Route.{RouteStep, route_of, rules_of_text}
+use Rattle.drive_rules.specs.declared.route.fault.RouteFault.TheVariants.{Form, Range}
+use Rattle.drive_rules.specs.Route.{RouteStep, route_of, rules_of_text}
 
 abbrev heading : List ℕ
 heading = codes "route 1\ntrain 1000 1000 1000 0 0\ntop 3\ntraction 51000\nbrake 100000\nlatest 50\n"

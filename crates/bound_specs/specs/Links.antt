@@ -1,10 +1,10 @@
 -- Links between cells of neighbouring points: which are possible, and what a link costs at least, with the step's time priced.
 use Rattle.std.specs.Prelude.{ℕ, ◌+◌, ◌*◌, ◌&&◌, nat_le, Bool, ℤ, pos, neg_ℤ, ◌+ℤ◌, Option, Some, None, if◌then◌else◌, slice_index}
 use Rattle.std.specs.Int.RustNames.{int_le}
-use Rattle.rail_specs.specs.declared.Cell.{Cell}
+use Rattle.bound_specs.specs.declared.Cell.{Cell}
 use Rattle.rail_specs.specs.Step.{work, lower_time}
 use Rattle.rail_specs.specs.Rules.{Rules, step_at, traction_work, brake_work}
-use Rattle.rail_specs.specs.Prices.{Prices, step_price}
+use Rattle.bound_specs.specs.Prices.{Prices, step_price}
 
 -- a cost of work, rules, and prices
 pub record Pricing : Type 0 where
