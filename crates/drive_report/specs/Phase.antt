@@ -1,8 +1,8 @@
 -- The phases of a drive: what the train does over each step.
 use Rattle.std.specs.Prelude.{ℕ, ◌+◌, ◌==◌, ◌&&◌, ◌||◌, nat_lt, Bool, pos, List, codes, slice_index, if◌then◌else◌}
 use Rattle.std.specs.Int.RustNames.{int_lt, int_le}
-use Rattle.drive_report.specs.declared.phases.Phase.{Phase}
-use Rattle.drive_report.specs.declared.phases.Phase.TheVariants.{Hold, Power, Coast, Brake, Part}
+use Rattle.drive_report.specs.declared.kinds.Phase.{Phase}
+use Rattle.drive_report.specs.declared.kinds.Phase.TheVariants.{Hold, Power, Coast, Brake, Part}
 use Rattle.rail_specs.specs.Step.{work}
 use Rattle.rail_specs.specs.Rules.{Rules, step_at, traction_work}
 

@@ -4,11 +4,13 @@
 //! `specs/Report.antt`, and those of the phases in `specs/Phase.antt`.
 #![tactic(auto)]
 
+mod kinds;
 mod late_texts;
 mod lines;
 mod phases;
 mod reports;
 
 pub use late_texts::{late_text, no_drive_text};
-pub use phases::{Phase, phase};
+pub use kinds::Phase;
+pub use phases::phase;
 pub use reports::report;

@@ -6,22 +6,8 @@ ghost use Rattle.drive_report.specs.Phase.{phase_of};
 ghost use Rattle.rail_specs.specs.Rules.{step_at, traction_work};
 ghost use Rattle.rail_specs.specs.Step.{work};
 
+use crate::kinds::Phase;
 use drive_rules::Rules;
-
-/// What a train does over a step. A step has the first of these that fits.
-#[derive(Clone, Copy, PartialEq, Eq, Debug)]
-pub enum Phase {
-    /// It keeps its speed.
-    Hold,
-    /// It gains speed with as much traction as it has: one speed more is above its top or its traction.
-    Power,
-    /// It rolls without traction, and could not be faster at the end without it.
-    Coast,
-    /// It brakes.
-    Brake,
-    /// It does anything else.
-    Part,
-}
 
 /// Whether a train that gains speed over step i, from v0 to v1, has all the traction it can: one cm/s more at the end
 /// would be above its top speed, or would take more traction than it has.

@@ -6,11 +6,11 @@ use std::marker::Model;
 
 /// Items in order. Contracts see the list.
 #[derive(Drop)]
-pub struct ItemList<T: Copy> {
+pub struct ItemList<T: Drop> {
     items: Vec<T>,
 }
 
-impl<T: Copy> Model for ItemList<T> {
+impl<T: Drop> Model for ItemList<T> {
     ghost use Rattle.std.specs.Prelude.{List};
 
     ghost Value = { List T };
@@ -18,7 +18,7 @@ impl<T: Copy> Model for ItemList<T> {
     ghost view = { λ list. list.items.items };
 }
 
-impl<T: Copy> ItemList<T> {
+impl<T: Drop> ItemList<T> {
     /// An empty list, which takes no memory.
     pub fn new(alloc: Global) -> ItemList<T>
         ensures { result ≡ [] }
@@ -50,7 +50,9 @@ impl<T: Copy> ItemList<T> {
         self.items.push(item)?;
         Ok(())
     }
+}
 
+impl<T: Copy> ItemList<T> {
     /// An equal list of its own, or want of memory.
     pub fn copy(&self, alloc: Global) -> Result<ItemList<T>, AllocError>
         ensures { IfOk result (λ list. list ≡ self.now) }
