@@ -1,0 +1,28 @@
+//! The statuses that the program ends with.
+
+/// The greatest drive is on time, and the gap between its energy and the bound is within the tolerance.
+pub const GAP_MET: u8 = 0;
+
+/// The greatest drive is on time, and the gap is wider.
+pub const GAP_OPEN: u8 = 1;
+
+/// The words ask for nothing.
+pub const USAGE: u8 = 2;
+
+/// A file is too long or is refused, or the rules that the files give together are.
+pub const REFUSED: u8 = 3;
+
+/// There is no drive.
+pub const NO_DRIVE: u8 = 4;
+
+/// There is a drive, and none is on time.
+pub const LATE: u8 = 5;
+
+/// A file can't be read.
+pub const READ_FAULT: u8 = 6;
+
+/// The text, or a part of it, can't be written.
+pub const WRITE_FAULT: u8 = 7;
+
+/// There is no memory.
+pub const NO_MEMORY: u8 = 8;
