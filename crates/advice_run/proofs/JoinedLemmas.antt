@@ -1,9 +1,9 @@
 -- Answers over a shelf that tells the same as before, and had as many faults or fewer then.
 use Rattle.std.proofs.Common.{ℕ, ◌≡◌, ◌≤◌, List, [], codes, subst, inl, inr}
-use Rattle.drive_rules.specs.declared.setup.Setup.{Setup}
-use Rattle.drive_rules.specs.declared.joined.fault.RulesFault.{RulesFault}
-use Rattle.drive_rules.specs.declared.joined.fault.RulesFault.TheVariants.{NoMemory}
-use Rattle.drive_rules.specs.Joined.{Joins, Refuses, first_place}
+use Rattle.joined_rules.specs.declared.setup.Setup.{Setup}
+use Rattle.joined_rules.specs.declared.fault.RulesFault.{RulesFault}
+use Rattle.joined_rules.specs.declared.fault.RulesFault.TheVariants.{NoMemory}
+use Rattle.joined_rules.specs.Joined.{Joins, Refuses, first_place}
 use Rattle.rail_specs.specs.Rules.{Rules}
 use Rattle.rail_specs.specs.Cost.{traction_cost}
 use Rattle.advice_run.specs.Plan.{IsPlanAnswer}

@@ -1,7 +1,7 @@
 -- The words of faults: why a file, or the rules that files give together, are refused.
 use Rattle.std.specs.Prelude.{ℕ, ◌++◌, ◌∷◌, List, [], pos, codes}
-use Rattle.drive_rules.specs.declared.route.fault.RouteFault.{RouteFault}
-use Rattle.drive_rules.specs.declared.route.fault.RouteFault.TheVariants as route
+use Rattle.route_file.specs.declared.fault.RouteFault.{RouteFault}
+use Rattle.route_file.specs.declared.fault.RouteFault.TheVariants as route
 use Rattle.line_file.specs.declared.line.LineFault.{LineFault}
 use Rattle.line_file.specs.declared.line.LineFault.TheVariants as line
 use Rattle.line_file.specs.declared.service.ServiceFault.{ServiceFault}
@@ -10,8 +10,8 @@ use Rattle.train_file.specs.declared.fault.Key.{Key}
 use Rattle.train_file.specs.declared.fault.Key.TheVariants as key
 use Rattle.train_file.specs.declared.fault.TrainFault.{TrainFault}
 use Rattle.train_file.specs.declared.fault.TrainFault.TheVariants as train
-use Rattle.drive_rules.specs.declared.joined.fault.RulesFault.{RulesFault}
-use Rattle.drive_rules.specs.declared.joined.fault.RulesFault.TheVariants as rules
+use Rattle.joined_rules.specs.declared.fault.RulesFault.{RulesFault}
+use Rattle.joined_rules.specs.declared.fault.RulesFault.TheVariants as rules
 use Rattle.rail_base.specs.Texts.{spaced}
 
 -- the words of a fault of a route

@@ -6,14 +6,14 @@ use Rattle.line_file.specs.LineText.{line_of}
 use Rattle.line_file.specs.ServiceText.{service_of}
 use Rattle.train_file.specs.declared.train.Train.{Train}
 use Rattle.train_file.specs.TrainText.{train_of}
-use Rattle.drive_rules.specs.declared.setup.Setup.{Setup}
-use Rattle.drive_rules.specs.declared.joined.fault.RulesFault.{RulesFault}
-use Rattle.drive_rules.specs.declared.joined.fault.RulesFault.TheVariants as rules
-use Rattle.drive_rules.specs.Joined.{Joins, Refuses, first_place}
+use Rattle.joined_rules.specs.declared.setup.Setup.{Setup}
+use Rattle.joined_rules.specs.declared.fault.RulesFault.{RulesFault}
+use Rattle.joined_rules.specs.declared.fault.RulesFault.TheVariants as rules
+use Rattle.joined_rules.specs.Joined.{Joins, Refuses, first_place}
 use Rattle.rail_specs.specs.Rules.{Rules}
 use Rattle.edge_io.specs.Faults.{Rose, Told, Appends}
 use Rattle.rail_base.specs.Texts.{line as text_line}
-use Rattle.drive_rules.specs.Route.{rules_of_text}
+use Rattle.route_file.specs.Route.{rules_of_text}
 use Rattle.rail_specs.specs.Cost.{traction_cost}
 use Rattle.advice_run.specs.Plan.{IsPlanAnswer}
 use Rattle.advice_run.specs.Words.{Command, Usage, Route, Plan}

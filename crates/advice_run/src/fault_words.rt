@@ -69,7 +69,7 @@ fn keyed_row(alloc: Global, word: &[u8], key: Key, row: u32) -> Result<Vec<u8>, 
 }
 
 impl Fault for RouteFault {
-    ghost use Rattle.drive_rules.specs.declared.route.fault.RouteFault.TheVariants.{NoMemory};
+    ghost use Rattle.route_file.specs.declared.fault.RouteFault.TheVariants.{NoMemory};
     ghost use Rattle.advice_run.specs.FaultWords.{route_fault_words};
 
     ghost no_memory = { NoMemory };
@@ -158,7 +158,7 @@ impl Fault for TrainFault {
 }
 
 impl Fault for RulesFault {
-    ghost use Rattle.drive_rules.specs.declared.joined.fault.RulesFault.TheVariants.{NoMemory};
+    ghost use Rattle.joined_rules.specs.declared.fault.RulesFault.TheVariants.{NoMemory};
     ghost use Rattle.advice_run.specs.FaultWords.{rules_fault_words};
 
     ghost no_memory = { NoMemory };

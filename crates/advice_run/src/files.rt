@@ -1,7 +1,7 @@
 //! The files that a command names: each is fetched, measured and read.
 
 ghost use Rattle.std.specs.Prelude.{◌≡◌, ◌≢◌, ◌≤◌, ℕ, List, codes, IfOk};
-ghost use Rattle.drive_rules.specs.Route.{rules_of_text};
+ghost use Rattle.route_file.specs.Route.{rules_of_text};
 ghost use Rattle.line_file.specs.LineText.{line_of};
 ghost use Rattle.line_file.specs.ServiceText.{service_of};
 ghost use Rattle.line_file.specs.Shape.{IsLine, IsService};

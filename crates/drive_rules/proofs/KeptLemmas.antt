@@ -9,7 +9,7 @@ use Rattle.std.proofs.lemmas.List.{get_or_default}
 use Rattle.rail_specs.specs.Rules.{Rules, IsDrive, IsStepKept, IsPassed, no_timing, step_at, timing_at, traction_work}
 use Rattle.rail_specs.specs.Step.{work}
 use Rattle.rail_specs.specs.Times.{IsFirstLate, IsOnTimeUp, arrival_up}
-use Rattle.drive_rules.specs.Shaped.{IsShaped}
+use Rattle.rule_parts.specs.Shaped.{IsShaped}
 use Rattle.rail_base.specs.First.{first_below}
 use Rattle.drive_rules.specs.Verdict.{point_fault, force_rule, step_rule, step_fault, timing_fault, verdict, Moves, IsKept, Judges}
 use Rattle.drive_rules.proofs.VerdictLemmas.{first_below-found, option_or-none}

@@ -5,7 +5,7 @@ use Rattle.std.proofs.lemmas.Int.{ints}
 use Rattle.rail_specs.specs.Step.{upper_time}
 use Rattle.rail_specs.specs.Rules.{Rules, IsDrive, step_at, timing_at, no_timing}
 use Rattle.rail_specs.specs.Times.{sum_below, arrival_up, IsOnTimeUp, IsFirstLate}
-use Rattle.drive_rules.specs.Shaped.{IsShaped}
+use Rattle.rule_parts.specs.Shaped.{IsShaped}
 use Rattle.drive_rules.proofs.DriveLemmas.{moves_of_drive}
 
 -- more speed takes no more time over a step

@@ -3,11 +3,11 @@ ghost use Rattle.std.specs.Prelude.{◌≡◌, ℕ, ◌+◌, ◌*◌, ◌<◌, �
 ghost use Rattle.std.specs.Int.RustNames.{unsigned_abs};
 ghost use Rattle.rail_specs.specs.Rules.{IsDrive, is_stop, step_at};
 ghost use Rattle.rail_specs.specs.Times.{slack_of, standing_before};
-ghost use Rattle.drive_rules.specs.Shaped.{Rises, rules_of, IsShaped};
+ghost use Rattle.rule_parts.specs.Shaped.{Rises, rules_of, IsShaped};
 
-use crate::parts::Parts;
 use force_table::ForceTable;
 use rail_specs::Timing;
+use rule_parts::Parts;
 use std::alloc::{AllocError, Global};
 use std::marker::Model;
 use step_energy::StepRow;
@@ -25,7 +25,7 @@ impl Model for Rules {
 
     ghost Value = { RuleData };
 
-    ghost use Rattle.drive_rules.specs.Shaped.{rules_of, IsShaped};
+    ghost use Rattle.rule_parts.specs.Shaped.{rules_of, IsShaped};
 
     ghost view = { λ r. rules_of r.parts };
 

@@ -1,15 +1,15 @@
 //! The judge and the readers on worked numbers.
 ghost use Rattle.std.specs.Prelude.{◌≡◌, ◌+◌, ◌<◌, ◌≤◌, length, IfOk, IfSome};
 ghost use Rattle.std.specs.Int.RustNames.{unsigned_abs};
-ghost use Rattle.drive_rules.specs.Shaped.{rules_of};
+ghost use Rattle.rule_parts.specs.Shaped.{rules_of};
 
 use crate::drive::Drive;
 use crate::judge::{Judged, Rule};
-use crate::parts::Parts;
 use crate::rules::Rules;
 use force_table::{ForceTable, SpeedTable};
 use rail_base::Traction;
 use rail_specs::{StepNumbers, Timing};
+use rule_parts::Parts;
 use std::alloc::{AllocError, Global};
 use std::marker::Brand;
 use std::sync::ledger::{Blank, Ledger};

@@ -17,7 +17,7 @@ use Rattle.bound_specs.specs.Chains.{IsAtMost, cost_along, values_of, value_at, 
 use Rattle.bound_specs.specs.Prices.{Prices, ArePrices, AreFor, step_price, priced_slack}
 use Rattle.bound_specs.specs.Links.{Pricing, can_drive, priced_cost, low_cost}
 use Rattle.time_multipliers.specs.Steps.{StepsSumByParts}
-use Rattle.drive_rules.specs.Shaped.{IsShaped}
+use Rattle.rule_parts.specs.Shaped.{IsShaped}
 use Rattle.potential_table.proofs.LinkLemmas.{some_if}
 use Rattle.potential_table.specs.PricedLaws.{kept-can_drive, priced_costs}
 use Rattle.potential_table.specs.Bounds.{GivesBound}

@@ -5,7 +5,7 @@ use Rattle.std.proofs.lemmas.List.{get_or-map, length-map}
 use Rattle.rail_specs.specs.declared.Timing.{Timing}
 use Rattle.rail_specs.specs.Rules.{Rules, timing_at, no_timing}
 use Rattle.bound_specs.specs.Prices.{ArePrices}
-use Rattle.drive_rules.specs.Shaped.{IsShaped}
+use Rattle.rule_parts.specs.Shaped.{IsShaped}
 
 -- the point of timing point j
 at_timing : (r : Rules) (j : ℕ) → j < length r.timings → slice_index (map (λ t. t.point) r.timings) j ≡ (timing_at r j).point

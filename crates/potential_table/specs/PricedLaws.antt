@@ -18,7 +18,7 @@ use Rattle.bound_specs.specs.Prices.{Prices, ArePrices, charge, step_price}
 use Rattle.bound_specs.specs.Links.{Pricing, can_drive, can_link, priced_time, priced_cost, low_cost}
 use Rattle.rail_specs.proofs.WorkLemmas.{work_rises, work_falls, work_parts}
 use Rattle.step_energy.proofs.Bounds.{work_up_bound, fall_bound}
-use Rattle.drive_rules.specs.Shaped.{IsShaped}
+use Rattle.rule_parts.specs.Shaped.{IsShaped}
 use Rattle.potential_table.specs.Soundness.{IsPricing}
 
 -- a link that is possible, part by part

@@ -5,7 +5,7 @@ use Rattle.bound_specs.specs.Prices.{Prices}
 use Rattle.rail_specs.specs.Cost.{Grows, StaysWithin}
 use Rattle.bound_specs.specs.Prices.{ArePrices, AreFor}
 use Rattle.bound_specs.specs.Links.{Pricing}
-use Rattle.drive_rules.specs.Shaped.{IsShaped}
+use Rattle.rule_parts.specs.Shaped.{IsShaped}
 
 -- a cost that keeps its laws, the rules of a run, and prices for their timing points
 pub record IsPricing (p : Pricing) : Type 0 where

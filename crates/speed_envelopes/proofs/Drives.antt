@@ -10,7 +10,7 @@ use Rattle.rail_specs.specs.Step.{work, work_down}
 use Rattle.rail_specs.specs.Rules.{Rules, step_at, is_stop, traction_work, IsDrive, IsNarrowDrive, IsGreatestDrive, NoDrive}
 use Rattle.rail_specs.specs.Ranges.{IsGreatestNarrowDrive, NoNarrowDrive, no_narrowing}
 use Rattle.rail_specs.proofs.WorkLemmas.{work_parts}
-use Rattle.drive_rules.specs.Shaped.{IsShaped}
+use Rattle.rule_parts.specs.Shaped.{IsShaped}
 use Rattle.drive_rules.proofs.DriveLemmas.{top_of_drive}
 use Rattle.speed_envelopes.specs.Bounds.{Setting, is_idle, traction_asks, least_speed}
 use Rattle.speed_envelopes.specs.Levels.{AreLevels, IsBelow, Covers, NoneBelow}

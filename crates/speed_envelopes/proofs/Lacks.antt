@@ -7,7 +7,7 @@ use Rattle.std.proofs.lemmas.List.{get_or_past, get_or-map, length-map}
 use Rattle.rail_specs.specs.declared.Narrow.{Narrow}
 use Rattle.rail_specs.specs.Rules.{Rules, IsNarrowDrive}
 use Rattle.rail_specs.specs.Ranges.{IsLeastNarrowDrive}
-use Rattle.drive_rules.specs.Shaped.{IsShaped}
+use Rattle.rule_parts.specs.Shaped.{IsShaped}
 use Rattle.drive_rules.proofs.DriveLemmas.{top_of_drive}
 use Rattle.speed_envelopes.specs.Bounds.{Setting}
 use Rattle.speed_envelopes.specs.Levels.{IsLevelStep, AreFloored, AreLevels, IsBelow, Covers, NoneBelow, AreComplements}

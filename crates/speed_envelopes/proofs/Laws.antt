@@ -3,7 +3,7 @@ use Rattle.std.proofs.Common.{ℕ, ◌≤◌, ◌≡◌, ◌+◌, ◌∙◌, Lis
 use Rattle.std.specs.Prelude.{slice_index}
 use Rattle.std.proofs.lemmas.Int.{ints}
 use Rattle.std.proofs.lemmas.Bool.{cases_lt}
-use Rattle.drive_rules.specs.Shaped.{IsShaped}
+use Rattle.rule_parts.specs.Shaped.{IsShaped}
 use Rattle.speed_envelopes.specs.Bounds.{Setting}
 use Rattle.speed_envelopes.specs.Levels.{IsLevelStep}
 use Rattle.speed_envelopes.specs.Closure.{GreaterIsDrive, LesserIsDrive, GreaterIsNarrowDrive, LesserIsNarrowDrive}

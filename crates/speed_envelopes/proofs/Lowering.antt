@@ -6,7 +6,7 @@ use Rattle.std.proofs.lemmas.Int.{ints}
 use Rattle.std.proofs.lemmas.Bool.{cases_eq}
 use Rattle.std.proofs.lemmas.List.Sums.{sum_by-set}
 use Rattle.std.proofs.lemmas.List.{get_or-set_same, get_or-set_other}
-use Rattle.drive_rules.specs.Shaped.{IsShaped}
+use Rattle.rule_parts.specs.Shaped.{IsShaped}
 use Rattle.speed_envelopes.specs.Bounds.{Setting, asks, gives, floor}
 use Rattle.speed_envelopes.specs.Levels.{IsGreatest, point_at, point_opposite, IsLevelStep, AreFloored, AreLevels, IsBelow, Covers, NoneBelow, Lowers, NoLevel, Tightens}
 use Rattle.speed_envelopes.specs.declared.bounds.End.{End}

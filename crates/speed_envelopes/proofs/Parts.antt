@@ -6,7 +6,7 @@ use Rattle.std.proofs.Math.Nat.{mul-le-mul_left}
 use Rattle.rail_specs.specs.declared.Narrow.{Narrow}
 use Rattle.rail_specs.specs.Rules.{Rules, step_at, traction_work, brake_work}
 use Rattle.rail_specs.proofs.WorkLemmas.{work_up_rises, work_down_rises}
-use Rattle.drive_rules.specs.Shaped.{IsShaped}
+use Rattle.rule_parts.specs.Shaped.{IsShaped}
 use Rattle.speed_envelopes.specs.Bounds.{Setting, asks, gives, asked, given, traction_asks, brakes_ask, is_idle, IsLevelPair, IsStepDriven}
 use Rattle.speed_envelopes.specs.declared.bounds.Side.{Side}
 use Rattle.speed_envelopes.specs.declared.bounds.Side.TheVariants.{Greatest, Least}

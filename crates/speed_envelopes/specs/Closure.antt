@@ -4,7 +4,7 @@ use Rattle.rail_specs.specs.declared.Narrow.{Narrow}
 use Rattle.rail_specs.specs.Rules.{Rules, IsDrive, IsNarrowDrive, IsGreatestDrive, NoDrive}
 use Rattle.rail_specs.specs.Ranges.{IsGreatestNarrowDrive, NoNarrowDrive, no_narrowing}
 use Rattle.rail_specs.specs.Times.{arrival_up, IsOnTimeUp}
-use Rattle.drive_rules.specs.Shaped.{IsShaped}
+use Rattle.rule_parts.specs.Shaped.{IsShaped}
 use Rattle.speed_envelopes.specs.Narrowing.{IsNarrowerThan}
 
 -- c is at each point the greater of a and b

@@ -9,7 +9,7 @@ ghost use Rattle.std.specs.Prelude.{◌≡◌, ℕ, ◌+◌, ◌-◌, ◌*◌, �
 ghost use Rattle.std.specs.Int.RustNames.{unsigned_abs};
 ghost use Rattle.rail_specs.specs.Rules.{step_at, traction_work, brake_work};
 ghost use Rattle.rail_specs.specs.Step.{work_up, work_down};
-ghost use Rattle.drive_rules.specs.Shaped.{IsShaped};
+ghost use Rattle.rule_parts.specs.Shaped.{IsShaped};
 ghost use Rattle.speed_envelopes.specs.Bounds.{least_speed as floor_speed};
 
 use drive_rules::Rules;
@@ -67,7 +67,7 @@ pub(crate) struct Bounds<'a> {
 
 impl<'a> Model for Bounds<'a> {
     ghost use Rattle.speed_envelopes.specs.Bounds.{Setting};
-    ghost use Rattle.drive_rules.specs.Shaped.{IsShaped};
+    ghost use Rattle.rule_parts.specs.Shaped.{IsShaped};
 
     ghost Value = { Setting };
 

@@ -1,5 +1,5 @@
 use Rattle.std.proofs.Common.{arith, codes, ◌≢◌}
-use Rattle.drive_rules.specs.declared.joined.fault.RulesFault.TheVariants.{NoMemory}
+use Rattle.joined_rules.specs.declared.fault.RulesFault.TheVariants.{NoMemory}
 use Rattle.rail_specs.specs.Cost.{traction_cost}
 use Rattle.advice_run.specs.Plan.{IsPlanAnswer}
 use Rattle.advice_run.specs.Outcome.{IsJoinedAnswer, IsRefusal}

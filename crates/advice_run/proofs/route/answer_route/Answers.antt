@@ -2,7 +2,7 @@ use Rattle.std.proofs.Common.{List, ℕ, codes}
 use Rattle.rail_specs.specs.Cost.{traction_cost}
 use Rattle.advice_run.specs.Plan.{IsPlanAnswer}
 use Rattle.rail_specs.specs.Rules.{Rules}
-use Rattle.drive_rules.specs.Route.{rules_of_text}
+use Rattle.route_file.specs.Route.{rules_of_text}
 use Rattle.edge_io.specs.Faults.{Told}
 use Rattle.advice_run.specs.Outcome.{MayWrite}
 use Rattle.advice_run.specs.FaultWords.{route_fault_words}

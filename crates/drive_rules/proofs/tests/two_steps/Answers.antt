@@ -7,7 +7,7 @@ use Rattle.rail_specs.specs.declared.Timing.{Timing}
 use Rattle.rail_specs.specs.Rules.{Rules, IsPassed}
 use Rattle.rail_specs.specs.Step.{IsInRange, HasSmallDrag}
 use Rattle.rail_specs.specs.Table.{IsForceTable}
-use Rattle.drive_rules.specs.Shaped.{IsShaped}
+use Rattle.rule_parts.specs.Shaped.{IsShaped}
 use Rattle.drive_rules.proofs.tests.two_steps.Goals as goal
 
 -- the rules of the example: the same step twice

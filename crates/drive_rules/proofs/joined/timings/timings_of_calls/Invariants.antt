@@ -1,5 +1,0 @@
-use Rattle.drive_rules.proofs.JoinedTimings.{TimedTo}
-use Rattle.drive_rules.proofs.joined.timings.timings_of_calls.Given as goal
-
-abbrev pub invariant-loop-j : goal.invariant-loop-j
-invariant-loop-j l = TimedTo l.calls l.places l.clock l.j l.point l.timings.items

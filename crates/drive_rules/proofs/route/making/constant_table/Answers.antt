@@ -1,5 +1,0 @@
-use Rattle.drive_rules.proofs.RouteRules.{table-constant}
-use Rattle.drive_rules.proofs.route.making.constant_table.Goals as goal
-
-pub returns-in-Ok : goal.returns-in-Ok
-returns-in-Ok c = table-constant c.args.top c.args.force c.in-Ok.table c.requires.some c.in-Ok.ensures.table

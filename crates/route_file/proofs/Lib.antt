@@ -1,0 +1,8 @@
+pub mod NumbersRead
+pub mod RouteHeading
+pub mod RouteEntries
+pub mod RouteRules
+pub mod RouteFaultless
+pub mod RouteShaped
+pub mod RouteWhole
+mod RouteExamples
