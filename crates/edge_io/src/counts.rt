@@ -1,6 +1,6 @@
 //! Counts of faults by name.
 
-ghost use Rattle.std.specs.Prelude.{◌≡◌, ℕ, List, IsTrue, OnOk, if◌then◌else◌};
+ghost use Rattle.std.specs.Prelude.{◌≡◌, ℕ, List, IsTrue, OnErr, OnOk, if◌then◌else◌};
 ghost use Rattle.std.specs.Str.{bytes_eq};
 ghost use Rattle.edge_io.specs.Counts.{count_in, has_name, raised};
 
@@ -36,6 +36,7 @@ impl Counts {
     /// Makes the room for a name's count. No count changes.
     pub(crate) fn make_room(&mut self, alloc: Global, name: &str) -> Result<(), AllocError>
         ensures has { OnOk result (IsTrue (has_name self.new name.now)) }
+        ensures kept { OnErr result (self.new ≡ self.old) }
         ensures same { (q : List ℕ) → count_in self.new q ≡ count_in self.old q }
     {
         if self.counts.contains_key(name) {

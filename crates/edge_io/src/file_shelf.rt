@@ -1,6 +1,8 @@
 //! Files of the system.
 
-ghost use Rattle.std.specs.Prelude.{◌≡◌, ◌≢◌, ◌≤◌, ◌++◌, ℕ, List, None, IfOk, IfSome, OnOk, take, vec_len};
+ghost use Rattle.std.specs.Prelude.{◌≡◌, ◌≢◌, ◌≤◌, ◌<◌, ◌++◌, ℕ, List, None, IfOk, IfSome, OnOk, length, take, vec_len};
+ghost use Rattle.std.specs.Io.{ReadsAtMost};
+ghost use Rattle.std.specs.Io.KnownBytes.{Consumes, IsAtEnd};
 ghost use Rattle.edge_io.specs.Faults.{Fetches, Rose};
 ghost use Rattle.edge_io.specs.Counts.{count_in, raised};
 
@@ -42,6 +44,23 @@ impl<'a, R: Files> FileShelf<'a, R> {
     }
 }
 
+/// One read, tried again where a signal interrupts it.
+fn read_again<F: Read>(file: &mut F, block: &mut [u8]) -> io::Result<usize>
+    ensures bound { ReadsAtMost result block.new }
+    ensures room { length block.new ≡ length block.old }
+    ensures taken { IfOk result (λ n. Consumes (F.remaining file.old) (F.remaining file.new) (take n block.new)) }
+    ensures end { IfOk result (λ n. n ≡ 0 → 0 < length block.old → IsAtEnd (F.remaining file.new)) }
+{
+    for _ in 0..u64::MAX {
+        match file.read(block) {
+            Ok(count) => return Ok(count),
+            Err(error) if error.kind() == ErrorKind::Interrupted => {}
+            Err(error) => return Err(error),
+        }
+    }
+    Err(io::Error::from(ErrorKind::Interrupted))
+}
+
 /// Appends what a reader gives, up to `most` bytes in all, and all of it where there is less. Each turn takes at least one byte or is
 /// the end.
 fn read_front<F: Read>(file: &mut F, most: usize, bytes: &mut Vec<u8>) -> io::Result<()>
@@ -52,7 +71,7 @@ fn read_front<F: Read>(file: &mut F, most: usize, bytes: &mut Vec<u8>) -> io::Re
     let mut block = [0u8; BLOCK];
     while bytes.len() < most {
         let wanted = BLOCK.min(most - bytes.len());
-        let count = file.read(&mut block[..wanted])?;
+        let count = read_again(file, &mut block[..wanted])?;
         if count == 0 {
             break;
         }

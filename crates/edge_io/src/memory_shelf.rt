@@ -1,8 +1,8 @@
 //! Files in memory.
 
-ghost use Rattle.std.specs.Prelude.{◌≡◌, ◌≢◌, ◌≤◌, ◌+◌, ℕ, List, IfOk, Some, None, option_map, take};
+ghost use Rattle.std.specs.Prelude.{◌≡◌, ◌≢◌, ◌≤◌, ◌⊎◌, ℕ, List, IfOk, IsTrue, Some, None, option_map, take};
 ghost use Rattle.edge_io.specs.Faults.{Fetches, Rose};
-ghost use Rattle.edge_io.specs.Counts.{count_in, raised};
+ghost use Rattle.edge_io.specs.Counts.{count_in, has_name, raised};
 ghost use Rattle.edge_io.specs.Memory.{counted, file_of, next_file};
 ghost use Rattle.edge_io.specs.Named.{named};
 
@@ -88,7 +88,7 @@ impl Shelf for MemoryShelf {
         ensures given { IfOk result (λ v. option_map (λ file. take most file) (next_file self.old name.now) ≡ Some v.items) }
         ensures failed { result ≡ Err FetchFault.Failed → next_file self.old name.now ≡ None }
         ensures calls { result ≢ Err FetchFault.NoMemory → self.new.calls ≡ counted self.old.calls }
-        ensures fewer_calls { result ≡ Err FetchFault.NoMemory → (self.old.calls ≤ self.new.calls) × (self.new.calls ≤ self.old.calls + 1) }
+        ensures no_memory { result ≡ Err FetchFault.NoMemory → (self.new ≡ self.old) ⊎ (IsTrue (has_name self.new.faults name.now) × (self.new.calls ≡ counted self.old.calls)) }
         ensures files { self.new.files ≡ self.old.files }
         ensures fails { self.new.fails ≡ self.old.fails }
         ensures raised { result ≡ Err FetchFault.Failed → count_in self.new.faults name.now ≡ raised (count_in self.old.faults name.now) }

@@ -1,6 +1,6 @@
 //! Bytes that are put.
 
-ghost use Rattle.std.specs.Prelude.{◌≡◌, ◌≤◌, ℕ, List, Option, IfOk, OnOk, OnErr, take, length};
+ghost use Rattle.std.specs.Prelude.{◌≡◌, ◌≤◌, ℕ, List, Ok, Option, IfOk, OnOk, OnErr, take, length};
 ghost use Rattle.edge_io.specs.Faults.{Appends, HasCause, Puts};
 
 /// A put failed, and the sink's count of faults rose.
@@ -15,11 +15,13 @@ pub trait Sink {
     /// How many faults there were.
     ghost faults: { Self → ℕ };
 
-    /// Puts the front of a piece and answers how many bytes it took: at least one where there is one.
+    /// Puts the front of a piece and answers how many bytes it took: at least one where there is one. A piece without bytes gives 0,
+    /// and nothing is put.
     ///
     /// `Failed` comes only where the count of faults rose in this call, and puts nothing. A sink that takes nothing of
     /// a piece that has bytes is such a fault.
     fn put(&mut self, piece: &[u8]) -> Result<usize, Failed>
+        ensures empty { length piece.now ≡ 0 → result ≡ Ok 0 }
         ensures puts { IfOk result (Puts (written self.old) piece.now (written self.new)) }
         ensures kept { OnErr result (written self.new ≡ written self.old) }
         ensures cause { HasCause (faults self.old) (faults self.new) result };
