@@ -4,7 +4,7 @@ ghost use Rattle.std.specs.Prelude.{◌≡◌, ◌≢◌, ◌+◌, ◌≤◌, le
 ghost use Rattle.std.specs.Str.Lines.{lines};
 ghost use Rattle.line_file.specs.Shape.{IsLine, IsService};
 ghost use Rattle.train_file.specs.Shape.{IsTrain};
-ghost use Rattle.route_file.specs.Route.{is_step_line, rules_of_text};
+ghost use Rattle.route_file.specs.Route.{is_step_line, rows_made, rules_of_text, CountsRows};
 ghost use Rattle.joined_rules.specs.Joined.{IsSetup, Joins, Refuses};
 
 use crate::rules::Rules;
@@ -24,7 +24,8 @@ use train_file::Train;
 /// step's drag is too great for the train, or where it is the end with fewer than two steps before it; `TooManySteps`
 /// where it begins as a 4,001st step does. `NoMemory` may come at any place.
 ///
-/// It counts one step for each step line that it makes a row of, so on `Ok` as many as the route has.
+/// It counts one step for each step line that it makes a row of: on `Ok` as many as the route has, and on a refusal the step lines before
+/// the refused line, and that line too where its drag alone is too great.
 pub fn read_route<L: Ledger>(
     alloc: Global,
     text: &[u8],
@@ -32,6 +33,7 @@ pub fn read_route<L: Ledger>(
 ) -> Result<Rules, RouteFault>
     ensures rules { result ≢ Err RouteFault.NoMemory → result ≡ rules_of_text text.now }
     ensures counted { IfOk result (λ rules. steps.new ≡ steps.old + length rules.steps) }
+    ensures made { CountsRows result (rows_made text.now) steps.old steps.new }
     ensures least { steps.old ≤ steps.new }
     ensures most { steps.new ≤ steps.old + count_by is_step_line (lines text.now) }
 {

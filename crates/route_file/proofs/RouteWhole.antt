@@ -1,5 +1,6 @@
 -- The rules of a whole text, from those of its parts.
-use Rattle.std.proofs.Common.{ℕ, ◌≡◌, ◌≤◌, ◌+◌, ◌∙◌, Bool, List, [], ◌∷◌, ◌++◌, length, cond, drop, map, count_by, Option, Some, None, Result, Ok, Err, refl, ap, sym, arith, subst}
+use Rattle.std.proofs.Common.{ℕ, ◌≡◌, ◌≤◌, ◌+◌, ◌∙◌, Bool, true, false, if◌then◌else◌, List, [], ◌∷◌, ◌++◌, length, cond, drop, map, count_by, Option, Some, None, Result, Ok, Err, refl, ap, sym, arith, subst}
+use Rattle.std.specs.Prelude.{is_none}
 use Rattle.std.proofs.lemmas.List.{append-nil, length-map}
 use Rattle.std.proofs.lemmas.List.Sums.{sum_by-take-drop}
 use Rattle.route_file.specs.declared.fault.RouteFault.{RouteFault}
@@ -7,7 +8,7 @@ use Rattle.route_file.specs.declared.fault.RouteFault.TheVariants.{Form, Range, 
 use Rattle.std.specs.Option.{option_or}
 use Rattle.rail_base.specs.First.{first_in}
 use Rattle.rail_base.specs.Lines.{size}
-use Rattle.route_file.specs.Route.{Route, entry_faults, ends_from, heading_faults, line_faults, route_in, rules_of_read, rules_of_route, step_numbers, steps_on, train_line, unless}
+use Rattle.route_file.specs.Route.{Route, entry_faults, ends_from, heading_faults, line_faults, route_in, row_counts, rows_on, rules_of_read, rules_of_route, step_numbers, steps_on, train_line, unless}
 use Rattle.rail_specs.specs.Rules.{Rules}
 use Rattle.route_file.specs.declared.data.Heading.{Heading}
 use Rattle.route_file.specs.declared.data.StepLists.{StepLists}
@@ -116,6 +117,23 @@ makes ls h left lists b a read =
       shaped = subst IsShaped (sym rules) (shaped (route_in ls) good);
       rules = ap (λ (x : Rules). Ok x) rules ∙ with_fault ls None (behind_heading ls h b.heading ∙ none);
     }
+
+-- a number where a test holds, and none where it doesn't
+where_true : (b : Bool) (x : ℕ) → b ≡ true → ◌≡◌ {A = ℕ} (if b then x else 0) x
+where_true b x h = rw h refl
+
+where_false : (b : Bool) (x : ℕ) → b ≡ false → ◌≡◌ {A = ℕ} (if b then x else 0) 0
+where_false b x h = rw h refl
+
+-- no row is made where a line before the steps has a fault
+pub rows_refused : (ls : List (List ℕ)) (e : RouteFault) → Err e ≡ unless (first_in (heading_faults ls)) (heading_of ls) → rows_on ls ≡ 0
+rows_refused ls e h = where_false (is_none (first_in (heading_faults ls))) _ (ap is_none (unless-err (first_in (heading_faults ls)) (heading_of ls) e h))
+
+-- else those of the lines behind the heading
+pub rows_behind : (ls : List (List ℕ)) (h : Heading) (left : List (List ℕ)) → IsBehind ls h left → rows_on ls ≡ row_counts h.train.inertia h.train.c 7 left
+rows_behind ls h left b =
+    let read = unless-ok (first_in (heading_faults ls)) (heading_of ls) h b.heading in
+    rw (read.1, b.taken) (where_true (is_none (first_in (heading_faults ls))) _ (ap is_none read.0))
 
 count_by-drop : (p : List ℕ → Bool) (n : ℕ) (xs : List (List ℕ)) → count_by p (drop n xs) ≤ count_by p xs
 count_by-drop p n xs = omega (arith, sum_by-take-drop (λ x. cond (p x) 1 0) xs n)

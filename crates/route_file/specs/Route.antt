@@ -1,10 +1,10 @@
 -- What the text of a route means: its data, or the first line that is refused, and the rules of the data.
-use Rattle.std.specs.Prelude.{filter, ℕ, ◌+◌, ◌*◌, ◌&&◌, ℤ, pos, negsuc, Bool, true, false, List, [], ◌∷◌, ◌++◌, Option, Some, None, Result, Ok, Err, if◌then◌else◌, nat_lt, length, drop, map, replicate, codes}
+use Rattle.std.specs.Prelude.{filter, ℕ, ◌+◌, ◌*◌, ◌&&◌, ℤ, pos, negsuc, Bool, true, false, List, [], ◌∷◌, ◌++◌, Option, Some, None, Result, Ok, Err, if◌then◌else◌, nat_lt, is_none, ◌≡◌, ◌≤◌, length, drop, map, replicate, codes}
 use Rattle.std.specs.Int.RustNames.{unsigned_abs}
 use Rattle.std.specs.Str.{bytes_eq}
 use Rattle.std.specs.Str.Lines.{lines}
 use Rattle.route_file.specs.declared.fault.RouteFault.{RouteFault}
-use Rattle.route_file.specs.declared.fault.RouteFault.TheVariants.{Form, Range, TooManySteps}
+use Rattle.route_file.specs.declared.fault.RouteFault.TheVariants.{Form, Range, TooManySteps, NoMemory}
 use Rattle.rail_specs.specs.declared.StepNumbers.{StepNumbers}
 use Rattle.rail_specs.specs.declared.TrainNumbers.{TrainNumbers}
 use Rattle.rail_base.specs.First.{first_in}
@@ -110,6 +110,38 @@ entry_faults inertia c n (line ∷ ls) =
     if is_step_line line then step_fault inertia c n line ∷ entry_faults inertia c (n + 1) ls
     else if bytes_eq line (codes "end") then end_fault n ∷ behind_faults (n + 1) ls
     else Some (Form n) ∷ []
+
+-- ---- how many rows of steps are made while the lines are read, where what was made is counted
+
+-- the numbers of a step are there and in range, but for the drag
+abbrev pub is_step_of : Option (List ℤ) → Bool
+is_step_of None = false
+is_step_of (Some ns) = is_step ns
+
+-- of line n that begins as a step does: one, where it isn't one too many, is of its form, and its numbers are in range. Where the drag
+-- is too great, the row is refused when it is made.
+abbrev pub row_count : ℕ → List ℕ → ℕ
+row_count n line = if nat_lt 4006 n then 0 else (if is_step_of (numbers_after (codes "step ") 3 line) then 1 else 0)
+
+-- of the lines from line n on: of each step line before the first line with a fault, and of that line itself where only its drag is amiss
+abbrev pub row_counts : ℕ → ℕ → ℕ → List (List ℕ) → ℕ
+row_counts inertia c n [] = 0
+row_counts inertia c n (line ∷ ls) =
+    if is_step_line line then row_count n line + (if is_none (step_fault inertia c n line) then row_counts inertia c (n + 1) ls else 0) else 0
+
+-- of all lines: none where a line before the steps has a fault
+abbrev pub rows_on : List (List ℕ) → ℕ
+rows_on ls = if is_none (first_in (heading_faults ls)) then row_counts (size (train_line ls) 1) (size (train_line ls) 4) 7 (drop 6 ls) else 0
+
+-- of a text
+abbrev pub rows_made : List ℕ → ℕ
+rows_made text = rows_on (lines text)
+
+-- the counter shows the rows that were made, whatever the answer is; where memory runs out, no more than those
+abbrev pub CountsRows : {A : Type 0} → Result A RouteFault → ℕ → ℕ → ℕ → Type 0
+CountsRows (Ok x) rows old new = new ≡ old + rows
+CountsRows (Err NoMemory) rows old new = (old ≤ new) × (new ≤ old + rows)
+CountsRows (Err e) rows old new = new ≡ old + rows
 
 -- the faults of all lines, in order
 abbrev pub line_faults : List (List ℕ) → List (Option RouteFault)

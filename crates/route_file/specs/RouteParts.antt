@@ -2,12 +2,11 @@
 use Rattle.std.specs.Prelude.{ℕ, ◌+◌, ◌*◌, ◌≡◌, ◌≤◌, true, false, List, [], ◌∷◌, ◌++◌, Option, Some, None, Result, Ok, Err, map, codes, pos, length, replicate, if◌then◌else◌}
 use Rattle.std.specs.Str.{bytes_eq}
 use Rattle.route_file.specs.declared.fault.RouteFault.{RouteFault}
-use Rattle.route_file.specs.declared.fault.RouteFault.TheVariants.{NoMemory}
+use Rattle.route_file.specs.declared.fault.RouteFault.TheVariants.{Form, NoMemory}
 use Rattle.rail_specs.specs.declared.StepNumbers.{StepNumbers}
 use Rattle.rail_specs.specs.declared.TrainNumbers.{TrainNumbers}
-use Rattle.rail_base.specs.First.{first_in}
 use Rattle.rail_base.specs.Lines.{size}
-use Rattle.route_file.specs.Route.{RouteStep, train_line, top_line, traction_line, brake_line, latest_line, train_numbers, is_step_line, step_on, step_fault, end_fault, entry_faults, step_numbers, ends_from}
+use Rattle.route_file.specs.Route.{RouteStep, train_line, top_line, traction_line, brake_line, latest_line, train_numbers, is_step_line, step_on, step_fault, end_fault, row_count, step_numbers, ends_from}
 use Rattle.rail_specs.specs.Rules.{Rules}
 use Rattle.rail_specs.specs.Step.{IsTrainInRange}
 use Rattle.route_file.specs.declared.data.Heading.{Heading}
@@ -38,17 +37,25 @@ pub record IsHeading (h : Heading) : Type 0 where
 abbrev pub step_line : TrainNumbers → RouteStep → StepLine
 step_line t s = record { row = step_numbers t s; limit = s.limit }
 
+-- the fault of line n, behind the heading and before the end
+abbrev pub entry_fault : ℕ → ℕ → ℕ → List ℕ → Option RouteFault
+entry_fault inertia c n line = if is_step_line line then step_fault inertia c n line else if bytes_eq line (codes "end") then end_fault n else Some (Form n)
+
 -- what line n says, behind the heading and before the end: a step, the end, or its fault
 abbrev pub ReadsEntry : Result Entry RouteFault → TrainNumbers → ℕ → List ℕ → Type 0
 ReadsEntry (Ok (entry.Step s)) t n line = (is_step_line line ≡ true) × (step_fault t.inertia t.c n line ≡ None) × (s ≡ step_line t (step_on line))
 ReadsEntry (Ok entry.End) t n line = (is_step_line line ≡ false) × (bytes_eq line (codes "end") ≡ true) × (end_fault n ≡ None)
-ReadsEntry (Err e) t n line = (ls : List (List ℕ)) → first_in (entry_faults t.inertia t.c n (line ∷ ls)) ≡ Some e
+ReadsEntry (Err e) t n line = entry_fault t.inertia t.c n line ≡ Some e
 
--- a step counts one, the end none, and a refusal at most one for a line that begins as a step does
-abbrev pub CountsEntry : Result Entry RouteFault → List ℕ → ℕ → ℕ → Type 0
-CountsEntry (Ok (entry.Step s)) line old new = new ≡ old + 1
-CountsEntry (Ok entry.End) line old new = new ≡ old
-CountsEntry (Err e) line old new = (old ≤ new) × (new ≤ old + (if is_step_line line then 1 else 0))
+-- how many rows are made of line n behind the heading
+abbrev pub entry_rows : ℕ → List ℕ → ℕ
+entry_rows n line = if is_step_line line then row_count n line else 0
+
+-- a step counts one, the end none, and a line with a fault as many as are made of it
+abbrev pub CountsEntry : Result Entry RouteFault → ℕ → List ℕ → ℕ → ℕ → Type 0
+CountsEntry (Ok (entry.Step s)) n line old new = new ≡ old + 1
+CountsEntry (Ok entry.End) n line old new = new ≡ old
+CountsEntry (Err e) n line old new = new ≡ old + entry_rows n line
 
 -- no step yet
 pub record IsEmpty (lists : StepLists) : Type 0 where

@@ -1,12 +1,12 @@
 //! The steps of a route, and its end.
 
-ghost use Rattle.std.specs.Prelude.{[], ◌≡◌, ◌+◌, ◌&&◌, ℕ, ◌≤◌, pos, negsuc, Some, None, length, codes, IfOk, IfSome, OnOk, count_by, if◌then◌else◌};
+ghost use Rattle.std.specs.Prelude.{[], ◌≡◌, ◌+◌, ◌&&◌, ℕ, ◌≤◌, pos, negsuc, Some, None, length, codes, IfOk, IfSome, OnOk, if◌then◌else◌};
 ghost use Rattle.std.specs.Int.RustNames.{unsigned_abs};
 ghost use Rattle.rail_base.specs.First.{first_in};
 ghost use Rattle.rail_base.specs.Numbers.{is_within};
-ghost use Rattle.route_file.specs.Route.{entry_faults, is_step_line, step_fault, step_on, steps_on, unless};
+ghost use Rattle.route_file.specs.Route.{entry_faults, step_fault, step_on, steps_on, row_count, row_counts, unless, CountsRows};
 ghost use Rattle.rail_specs.specs.Step.{step_of_train, IsInRange, IsTrainInRange};
-ghost use Rattle.route_file.specs.RouteParts.{step_line, AnswersFault, AppendsStep, CountsEntry, HasSteps, IsEmpty, ReadsEntry};
+ghost use Rattle.route_file.specs.RouteParts.{step_line, AnswersFault, AppendsStep, HasSteps, IsEmpty, ReadsEntry, CountsEntry};
 
 use crate::data::{Entry, StepLine, StepLists};
 use crate::fault::RouteFault;
@@ -74,8 +74,7 @@ fn read_step<L: Ledger>(
     requires { IsTrainInRange train.now }
     ensures value { result ≡ unless (step_fault train.now.inertia train.now.c n line.now) (step_line train.now (step_on line.now)) }
     ensures counted { IfOk result (λ _. steps.new ≡ steps.old + 1) }
-    ensures least { steps.old ≤ steps.new }
-    ensures most { steps.new ≤ steps.old + 1 }
+    ensures made { steps.new ≡ steps.old + row_count n line.now }
 {
     if n > HEADING_LINES + MOST_STEPS {
         return Err(RouteFault::TooManySteps);
@@ -109,7 +108,7 @@ fn read_entry<L: Ledger>(
 ) -> Result<Entry, RouteFault>
     requires { IsTrainInRange train.now }
     ensures entry { ReadsEntry result train.now n line.now }
-    ensures counted { CountsEntry result line.now steps.old steps.new }
+    ensures counted { CountsEntry result n line.now steps.old steps.new }
 {
     if line.starts_with(b"step ") {
         let step = read_step(train, n, line, steps)?;
@@ -124,7 +123,8 @@ fn read_entry<L: Ledger>(
     Ok(Entry::End)
 }
 
-/// Takes the lines behind the heading: the steps and the end. It counts one step for each row that it makes.
+/// Takes the lines behind the heading: the steps and the end. It counts one step for each row that it makes, a refused one too.
+#[tactic(auto, using(crate::proofs::RouteCounts::counts))]
 pub(crate) fn read_steps<L: Ledger>(
     alloc: Global,
     train: &TrainNumbers,
@@ -135,8 +135,7 @@ pub(crate) fn read_steps<L: Ledger>(
     ensures fault { AnswersFault result (first_in (entry_faults train.now.inertia train.now.c 7 lines.entry)) }
     ensures read { IfOk result (HasSteps train.now (steps_on lines.entry) []) }
     ensures counted { IfOk result (λ lists. steps.new ≡ steps.old + length lists.rows.items) }
-    ensures least { steps.old ≤ steps.new }
-    ensures most { steps.new ≤ steps.old + count_by is_step_line lines.entry }
+    ensures made { CountsRows result (row_counts train.now.inertia train.now.c 7 lines.entry) steps.old steps.new }
 {
     let mut lists = no_steps(alloc)?;
     let mut n = HEADING_LINES + 1;

@@ -3,7 +3,7 @@
 
 ghost use Rattle.std.specs.Prelude.{◌≡◌, ◌≢◌, ◌+◌, ◌≤◌, length, count_by, IfOk, IfErr, Ok, Err};
 ghost use Rattle.std.specs.Str.Lines.{lines};
-ghost use Rattle.route_file.specs.Route.{is_step_line, rules_of_text};
+ghost use Rattle.route_file.specs.Route.{is_step_line, rows_made, rules_of_text, CountsRows};
 ghost use Rattle.rule_parts.specs.Shaped.{rules_of, IsShaped};
 
 mod data;
@@ -31,7 +31,8 @@ use step_energy::Steps;
 /// step's drag is too great for the train, or where it is the end with fewer than two steps before it; `TooManySteps`
 /// where it begins as a 4,001st step does. `NoMemory` may come at any place.
 ///
-/// It counts one step for each step line that it makes a row of, so on `Ok` as many as the route has.
+/// It counts one step for each step line that it makes a row of: on `Ok` as many as the route has, and on a refusal the step lines before
+/// the refused line, and that line too where its drag alone is too great.
 pub fn read_parts<L: Ledger>(
     alloc: Global,
     text: &[u8],
@@ -41,6 +42,7 @@ pub fn read_parts<L: Ledger>(
     ensures refused { IfErr result (λ e. e ≢ RouteFault.NoMemory → Err e ≡ rules_of_text text.now) }
     ensures shaped { IfOk result (λ parts. IsShaped (rules_of parts)) }
     ensures counted { IfOk result (λ parts. steps.new ≡ steps.old + length parts.rows.items) }
+    ensures made { CountsRows result (rows_made text.now) steps.old steps.new }
     ensures least { steps.old ≤ steps.new }
     ensures most { steps.new ≤ steps.old + count_by is_step_line (lines text.now) }
 {

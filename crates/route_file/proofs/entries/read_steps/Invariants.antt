@@ -1,6 +1,6 @@
-use Rattle.std.proofs.Common.{◌≡◌, ◌+◌, ◌*◌, ◌≤◌, length, count_by}
+use Rattle.std.proofs.Common.{◌≡◌, ◌+◌, ◌*◌, ◌≤◌, length}
 use Rattle.rail_base.specs.First.{first_in}
-use Rattle.route_file.specs.Route.{entry_faults, is_step_line, steps_on}
+use Rattle.route_file.specs.Route.{entry_faults, row_counts, steps_on}
 use Rattle.route_file.specs.RouteParts.{HasSteps}
 use Rattle.route_file.proofs.entries.read_steps.Given as goal
 
@@ -13,5 +13,5 @@ invariant-loop-line g l = record {
   few : length l.lists.rows.items ≤ 4000;
   end : l.lists.end ≤ 1000 * length l.lists.rows.items;
   counted : l.steps ≡ l.fn.steps + length l.lists.rows.items;
-  left : length l.lists.rows.items + count_by is_step_line l.lines ≡ count_by is_step_line l.initial.lines;
+  made : length l.lists.rows.items + row_counts l.train.inertia l.train.c l.n l.lines ≡ row_counts l.train.inertia l.train.c 7 l.initial.lines;
 }
