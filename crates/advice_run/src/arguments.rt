@@ -1,6 +1,6 @@
 //! The program over what the system gives: the words of its arguments, and a run.
 
-ghost use Rattle.std.specs.Prelude.{◌≡◌, ◌≢◌, ◌≤◌, ◌-◌, ℕ, List, Err, IfErr, IfOk, drop, map, string_bytes};
+ghost use Rattle.std.specs.Prelude.{◌≡◌, ◌≢◌, ◌≤◌, ◌-◌, ℕ, List, IfErr, IsErr, IfOk, drop, map, string_bytes};
 ghost use Rattle.std.specs.IoError.{error_kind};
 ghost use Rattle.std.specs.Vec.Iter.{into_iter_items};
 ghost use Rattle.edge_io.specs.Faults.{Rose};
@@ -33,7 +33,7 @@ fn words_after_name(alloc: Global, args: env::Args) -> Result<Words, AllocError>
 /// The words of a program's arguments. Arguments that are no texts are read as no words at all, which ask for nothing.
 fn words_of(alloc: Global, args: io::Result<env::Args>) -> Result<Words, AllocError>
     ensures words { IfOk result (λ words. words ≡ words_behind into_iter_items args) }
-    ensures memory { IfErr args (λ e. error_kind e ≡ ErrorKind.OutOfMemory → result ≡ Err AllocError) }
+    ensures memory { IfErr args (λ e. error_kind e ≡ ErrorKind.OutOfMemory → IsErr result) }
 {
     match args {
         Ok(args) => words_after_name(alloc, args),
