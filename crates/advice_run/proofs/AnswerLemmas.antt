@@ -1,12 +1,16 @@
 -- The answers to the rules of a run.
-use Rattle.std.proofs.Common.{ℕ, zero, suc, ◌≡◌, ◌↔◌, List, Bool, IsTrue, length, refl, arith, inl, inr}
-use Rattle.std.specs.Prelude.{ℤ, pos, negsuc, ◌≤ℤ◌, if◌then◌else◌, Result, Ok, Err, IfOk, OnOk}
+use Rattle.std.proofs.Common.{ℕ, zero, suc, ◌≡◌, ◌+◌, ◌-◌, ◌↔◌, List, subst, Bool, IsTrue, length, refl, arith, inl, inr}
+use Rattle.std.specs.Prelude.{ℤ, pos, negsuc, ◌≤ℤ◌, if◌then◌else◌, Result, Ok, Err, IfOk}
 use Rattle.std.proofs.lemmas.Int.{ints}
 use Rattle.rail_specs.specs.Rules.{Rules, IsGreatestDrive, timing_at, work_at}
 use Rattle.rail_specs.specs.Times.{IsOnTimeUp, NoneOnTime, IsFirstLate, arrival_up}
 use Rattle.rail_specs.specs.Cost.{traction_cost, int_sum_below, cost_of, IsBound, GapMet}
 use Rattle.drive_report.specs.Report.{late_text, report_text}
+use Rattle.line_file.specs.declared.line.Line.{Line}
+use Rattle.line_file.specs.declared.service.Service.{Service}
+use Rattle.train_file.specs.declared.train.Train.{Train}
 use Rattle.advice_run.specs.Plan.{IsPlanAnswer}
+use Rattle.advice_run.specs.Outcome.{IsJoinedAnswer, IsRulesAnswer}
 
 -- nothing comes back
 not_negative : (z : ℤ) → pos 0 ≤ℤ traction_cost z
@@ -70,7 +74,16 @@ pub ok_map : {A E : Type 0} (r : Result A E) (P Q : A → Type 0) → ((a : A) �
 ok_map (Ok a) P Q f h = f a h
 ok_map (Err e) P Q f h = tt
 
--- what holds of an answer where there is one, from a fact and what holds of it
-pub ok_both : {A E : Type 0} (r : Result A E) (F : Type 0) (P Q : A → Type 0) → ((a : A) → F → P a → Q a) → OnOk r F → IfOk r P → IfOk r Q
-ok_both (Ok a) F P Q f o h = f a o h
-ok_both (Err e) F P Q f o h = tt
+-- ---- answers over files
+
+-- the answer to rules, where the files counted their steps
+pub rules_answered : (tolerance old new : ℕ) (r : Rules) (status : ℕ) (text : List ℕ) → new ≡ old + (length r.steps + 0) → IsPlanAnswer traction_cost r tolerance status text
+    → IsRulesAnswer tolerance (new - old) r status text
+rules_answered tolerance old new r status text e h = (omega arith, h)
+
+-- the answer to joined rules, where the files counted no step
+pub joined_answered : (line : Line) (train : Train) (service : Service) (step tolerance old mid new status : ℕ) (text : List ℕ) → mid ≡ old + (0 + (0 + (0 + 0)))
+    → IsJoinedAnswer line train service step tolerance (new - mid) status text → IsJoinedAnswer line train service step tolerance (new - old) status text
+joined_answered line train service step tolerance old mid new status text e h =
+    let same : mid ≡ old = omega arith in
+    subst (λ (m : ℕ). IsJoinedAnswer line train service step tolerance (new - m) status text) same h

@@ -1,4 +1,2 @@
 pub mod AnswerLemmas
 pub mod WordsLemmas
-pub mod StageLemmas
-pub mod JoinedLemmas

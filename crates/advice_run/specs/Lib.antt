@@ -1,5 +1,3 @@
 pub mod Plan
 pub mod Words
-pub mod FaultWords
 pub mod Outcome
-pub mod Stage

@@ -1,14 +1,15 @@
 //! What the words ask for, and the answer to that.
 
-ghost use Rattle.std.specs.Prelude.{◌≡◌, ℕ, List, IfOk};
+ghost use Rattle.std.specs.Prelude.{◌≡◌, ◌≤◌, ◌-◌, ℕ, List, IfOk};
 ghost use Rattle.advice_run.specs.Words.{command_by, command_of};
 ghost use Rattle.advice_run.specs.Outcome.{MayWrite, Names};
 
-use crate::answer::{Answer, usage};
+use crate::usage::usage;
 use crate::command_line::{read_plan_words, read_route_words};
 use crate::plan::answer_plan;
 use crate::route::answer_route;
 use crate::words::Words;
+use command_files::Answer;
 use edge_io::Shelf;
 use std::alloc::{AllocError, Global};
 use std::sync::ledger::Ledger;
@@ -46,8 +47,9 @@ pub fn answer<S: Shelf, L: Ledger>(
     shelf: &mut S,
     steps: &mut Steps<L>,
 ) -> Result<Answer, AllocError>
-    ensures may { IfOk result (λ a. MayWrite (command_of words.now) (S.contents shelf.old) (S.faults shelf.old) (S.faults shelf.new) a.status a.text.items) }
+    ensures may { IfOk result (λ a. MayWrite (command_of words.now) (S.contents shelf.old) (S.faults shelf.old) (S.faults shelf.new) (steps.new - steps.old) a.status a.text.items) }
     ensures kept { (n : List ℕ) → S.contents shelf.new n ≡ S.contents shelf.old n }
+    ensures later { (n : List ℕ) → S.faults shelf.old n ≤ S.faults shelf.new n }
     ensures others { (n : List ℕ) → (Names (command_of words.now) n → ⊥) → S.faults shelf.new n ≡ S.faults shelf.old n }
 {
     match first_word(words) {
@@ -64,8 +66,9 @@ fn answer_route_words<S: Shelf, L: Ledger>(
     shelf: &mut S,
     steps: &mut Steps<L>,
 ) -> Result<Answer, AllocError>
-    ensures may { IfOk result (λ a. MayWrite (command_by FirstWord.Route words.now) (S.contents shelf.old) (S.faults shelf.old) (S.faults shelf.new) a.status a.text.items) }
+    ensures may { IfOk result (λ a. MayWrite (command_by FirstWord.Route words.now) (S.contents shelf.old) (S.faults shelf.old) (S.faults shelf.new) (steps.new - steps.old) a.status a.text.items) }
     ensures kept { (n : List ℕ) → S.contents shelf.new n ≡ S.contents shelf.old n }
+    ensures later { (n : List ℕ) → S.faults shelf.old n ≤ S.faults shelf.new n }
     ensures others { (n : List ℕ) → (Names (command_by FirstWord.Route words.now) n → ⊥) → S.faults shelf.new n ≡ S.faults shelf.old n }
 {
     match read_route_words(alloc, words)? {
@@ -81,8 +84,9 @@ fn answer_plan_words<S: Shelf, L: Ledger>(
     shelf: &mut S,
     steps: &mut Steps<L>,
 ) -> Result<Answer, AllocError>
-    ensures may { IfOk result (λ a. MayWrite (command_by FirstWord.Plan words.now) (S.contents shelf.old) (S.faults shelf.old) (S.faults shelf.new) a.status a.text.items) }
+    ensures may { IfOk result (λ a. MayWrite (command_by FirstWord.Plan words.now) (S.contents shelf.old) (S.faults shelf.old) (S.faults shelf.new) (steps.new - steps.old) a.status a.text.items) }
     ensures kept { (n : List ℕ) → S.contents shelf.new n ≡ S.contents shelf.old n }
+    ensures later { (n : List ℕ) → S.faults shelf.old n ≤ S.faults shelf.new n }
     ensures others { (n : List ℕ) → (Names (command_by FirstWord.Plan words.now) n → ⊥) → S.faults shelf.new n ≡ S.faults shelf.old n }
 {
     match read_plan_words(alloc, words)? {

@@ -1,13 +1,13 @@
 //! The program's top call.
 
-ghost use Rattle.std.specs.Prelude.{◌≡◌, ◌≢◌, ℕ, List};
+ghost use Rattle.std.specs.Prelude.{◌≡◌, ◌≢◌, ◌≤◌, ◌-◌, ℕ, List};
 ghost use Rattle.edge_io.specs.Faults.{Rose};
 ghost use Rattle.advice_run.specs.Words.{command_of};
 ghost use Rattle.advice_run.specs.Outcome.{Wrote, WroteFront, Names};
 
 use crate::command::answer;
-use crate::status;
 use crate::words::Words;
+use command_files::status;
 use edge_io::{Shelf, Sink, put_all};
 use std::alloc::Global;
 use std::sync::ledger::Ledger;
@@ -26,7 +26,7 @@ use step_energy::Steps;
 /// - 7: the text, or a part of it, can't be written;
 /// - 8: there is no memory, and nothing is written.
 ///
-/// `steps` counts the rows of steps that are made.
+/// `steps` counts the rows of steps that are made: where rules are answered, as many as they have.
 pub fn run<S: Shelf, K: Sink, L: Ledger>(
     alloc: Global,
     words: &Words,
@@ -36,13 +36,17 @@ pub fn run<S: Shelf, K: Sink, L: Ledger>(
 ) -> u8
     // Where no put failed the whole text is written. It is the usage, the answer to the files, or a read fault whose
     // cause is that the count of the file's own name rose in this call.
-    ensures whole { result ≢ 7 → result ≢ 8 → Wrote (command_of words.now) (S.contents shelf.old) (S.faults shelf.old) (S.faults shelf.new) (K.written sink.old) (K.written sink.new) result }
+    ensures whole { result ≢ 7 → result ≢ 8 → Wrote (command_of words.now) (S.contents shelf.old) (S.faults shelf.old) (S.faults shelf.new) (steps.new - steps.old) (K.written sink.old) (K.written sink.new) result }
 
     // A write fault comes only where the sink's count rose in this call, and the front of a text of this very input is written.
     ensures write_fault { result ≡ 7 → Rose (K.faults sink.old) (K.faults sink.new) }
-    ensures front { result ≡ 7 → WroteFront (command_of words.now) (S.contents shelf.old) (S.faults shelf.old) (S.faults shelf.new) (K.written sink.old) (K.written sink.new) }
+    ensures front { result ≡ 7 → WroteFront (command_of words.now) (S.contents shelf.old) (S.faults shelf.old) (S.faults shelf.new) (steps.new - steps.old) (K.written sink.old) (K.written sink.new) }
 
     ensures no_memory { result ≡ 8 → K.written sink.new ≡ K.written sink.old }
+
+    // No count of faults falls, neither a file's nor the sink's.
+    ensures later { (n : List ℕ) → S.faults shelf.old n ≤ S.faults shelf.new n }
+    ensures sink_later { K.faults sink.old ≤ K.faults sink.new }
 
     // Files are only read, and only those that the words name.
     ensures kept { (n : List ℕ) → S.contents shelf.new n ≡ S.contents shelf.old n }

@@ -1,15 +1,14 @@
 //! The command `route`: the rules that one file gives.
 
-ghost use Rattle.std.specs.Prelude.{◌≡◌, ◌≢◌, ℕ, List, IfOk};
+ghost use Rattle.std.specs.Prelude.{◌≡◌, ◌≢◌, ◌≤◌, ◌-◌, ℕ, List, IfOk};
 ghost use Rattle.advice_run.specs.Words.{Route};
-ghost use Rattle.advice_run.specs.Outcome.{MayWrite};
+ghost use Rattle.advice_run.specs.Outcome.{MayWrite, Names};
 
-use crate::answer::Answer;
 use crate::command_line::RouteWords;
-use crate::files::route_stage;
 use crate::rules::rules_answer;
-use crate::stage::Stage;
+use command_files::{Answer, File, FileList, Stage};
 use edge_io::Shelf;
+use plan_files::RouteFile;
 use std::alloc::{AllocError, Global};
 use std::sync::ledger::Ledger;
 use step_energy::Steps;
@@ -21,12 +20,17 @@ pub fn answer_route<S: Shelf, L: Ledger>(
     shelf: &mut S,
     steps: &mut Steps<L>,
 ) -> Result<Answer, AllocError>
-    ensures may { IfOk result (λ a. MayWrite (Route asked.now.file.now asked.now.tolerance) (S.contents shelf.old) (S.faults shelf.old) (S.faults shelf.new) a.status a.text.items) }
+    ensures may { IfOk result (λ a. MayWrite (Route asked.now.file.now asked.now.tolerance) (S.contents shelf.old) (S.faults shelf.old) (S.faults shelf.new) (steps.new - steps.old) a.status a.text.items) }
     ensures kept { (n : List ℕ) → S.contents shelf.new n ≡ S.contents shelf.old n }
-    ensures others { (n : List ℕ) → n ≢ asked.now.file.now → S.faults shelf.new n ≡ S.faults shelf.old n }
+    ensures later { (n : List ℕ) → S.faults shelf.old n ≤ S.faults shelf.new n }
+    ensures others { (n : List ℕ) → (Names (Route asked.now.file.now asked.now.tolerance) n → ⊥) → S.faults shelf.new n ≡ S.faults shelf.old n }
 {
-    match route_stage(alloc, shelf, asked.file, steps)? {
-        Stage::Read(rules) => rules_answer(alloc, &rules, asked.tolerance),
+    let route = File {
+        kind: RouteFile,
+        name: asked.file,
+    };
+    match (route, ()).read_all(alloc, shelf, steps)? {
+        Stage::Read(said) => rules_answer(alloc, &said.0, asked.tolerance),
         Stage::Ends(answer) => Ok(answer),
     }
 }

@@ -6,8 +6,7 @@ ghost use Rattle.rail_specs.specs.Times.{IsOnTimeUp, IsFirstLate, arrival_up};
 ghost use Rattle.rail_specs.specs.Cost.{traction_cost};
 ghost use Rattle.advice_run.specs.Plan.{IsPlanAnswer};
 
-use crate::answer::Answer;
-use crate::status;
+use command_files::{Answer, status};
 use drive_report::{late_text, no_drive_text, report};
 use drive_rules::{Judged, LateAt, Rules};
 use rail_base::{Traction, is_gap_met};

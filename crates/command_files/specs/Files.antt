@@ -45,6 +45,11 @@ abbrev pub IsFileEnd : {A F : Type 0} → Kind A F → List ℕ → (List ℕ �
 IsFileEnd kind name told before now status text =
     IsReadFault kind.role name before now status text ⊎ IsTooLong kind name told status text ⊎ IsFaulty kind name told status text
 
+-- the run may end at the file of this kind and name, or, once that was read, in this way behind it
+abbrev pub first_ends : {A F : Type 0} → Kind A F → List ℕ → (List ℕ → Told) → (List ℕ → ℕ) → (List ℕ → ℕ) → (ℕ → List ℕ → Type 0) → ℕ → List ℕ → Type 0
+first_ends {A} {F} kind name told before now behind status text =
+    IsFileEnd kind name told before now status text ⊎ ((said : A) × (Says kind name told said × behind status text))
+
 -- the answer over some files: one that ends the run at a file, or one to what all of them say
 abbrev pub MayAnswer : {A : Type 0} → (ℕ → List ℕ → Type 0) → (A → Type 0) → (A → ℕ → List ℕ → Type 0) → ℕ → List ℕ → Type 0
 MayAnswer {A} ends says next status text = ends status text ⊎ ((said : A) × (says said × next said status text))

@@ -4,7 +4,7 @@ ghost use Rattle.std.specs.Prelude.{◌≡◌, ◌≢◌, ◌≤◌, ◌+◌, �
 ghost use Rattle.edge_io.specs.Faults.{Told};
 ghost use Rattle.command_files.specs.Stage.{IsStage, OnRead};
 
-use crate::role::FileRole;
+use crate::role::{File, FileRole};
 use crate::stage::{Stage, read_file};
 use edge_io::Shelf;
 use std::alloc::{AllocError, Global};
@@ -87,23 +87,22 @@ impl FileList for () {
     ghost ends_still = { λ _ _ _ _ _ _ _ _ _ _ h. h };
 }
 
-impl<F: FileRole, R: FileList> FileList for (F, R) {
+impl<'a, F: FileRole, R: FileList> FileList for (File<'a, F>, R) {
     ghost use Rattle.std.specs.Prelude.{◌⊎◌};
-    ghost use Rattle.command_files.specs.Files.{IsFileEnd, Says};
+    ghost use Rattle.command_files.specs.Files.{Says, first_ends};
     ghost use Rattle.command_files.specs.Laws.{says_there, ends_along};
 
     type Said = (F::Said, R::Said);
 
-    ghost says = { λ files told said. Says F.kind (F.name_of files.0) told said.0 × R.says files.1 told said.1 };
+    ghost says = { λ files told said. Says F.kind files.0.name.now told said.0 × R.says files.1 told said.1 };
 
-    ghost ends = { λ files told before now status text. IsFileEnd F.kind (F.name_of files.0) told before now status text
-        ⊎ ((said : F.Said) × (Says F.kind (F.name_of files.0) told said × R.ends files.1 told before now status text)) };
+    ghost ends = { λ files told before now status text. first_ends F.kind files.0.name.now told before now (R.ends files.1 told before now) status text };
 
     ghost shape = { λ said. F.shape said.0 × R.shape said.1 };
 
     ghost steps_of = { λ said. F.steps_of said.0 + R.steps_of said.1 };
 
-    ghost names = { λ files name. (name ≡ F.name_of files.0) ⊎ R.names files.1 name };
+    ghost names = { λ files name. (name ≡ files.0.name.now) ⊎ R.names files.1 name };
 
     fn read_all<S: Shelf, L: Ledger>(
         &self,
@@ -120,9 +119,9 @@ impl<F: FileRole, R: FileList> FileList for (F, R) {
         }
     }
 
-    ghost says_still = { λ files told told' said same h. (says_there F.kind (F.name_of files.0) told told' said.0 (same (F.name_of files.0)) h.0, R.says_still files.1 told told' said.1 same h.1) };
+    ghost says_still = { λ files told told' said same h. (says_there F.kind files.0.name.now told told' said.0 (same files.0.name.now) h.0, R.says_still files.1 told told' said.1 same h.1) };
 
-    ghost ends_still = { λ files told told' before before' now status text same fewer h. ends_along F.kind (F.name_of files.0) told told' before before' now
-        (R.ends files.1 told before now status text) (R.ends files.1 told' before' now status text) status text (same (F.name_of files.0)) (fewer (F.name_of files.0))
+    ghost ends_still = { λ files told told' before before' now status text same fewer h. ends_along F.kind files.0.name.now told told' before before' now
+        (R.ends files.1 told before now status text) (R.ends files.1 told' before' now status text) status text (same files.0.name.now) (fewer files.0.name.now)
         (R.ends_still files.1 told told' before before' now status text same fewer) h };
 }

@@ -7,8 +7,8 @@ use std::alloc::{AllocError, Global};
 use std::sync::ledger::Ledger;
 use step_energy::Steps;
 
-/// A file of one kind, with the name that the words give for it.
-pub trait FileRole {
+/// A kind of file.
+pub trait FileRole: Copy {
     /// What a file of this kind says.
     type Said: Drop;
 
@@ -26,13 +26,6 @@ pub trait FileRole {
 
     /// How many steps are counted where a file says this.
     ghost steps_of: { Self.Said → ℕ };
-
-    /// The name of the file.
-    ghost name_of: { Self → List ℕ };
-
-    /// The name of the file.
-    fn name(&self) -> &str
-        ensures { result.now ≡ name_of self.now };
 
     /// The role that refusals and read faults name.
     fn role() -> &'static [u8]
@@ -58,4 +51,11 @@ pub trait FileRole {
     fn words(alloc: Global, fault: Self::Fault) -> Result<Vec<u8>, AllocError>
         ensures sound { OnOk result (fault ≢ no_memory) }
         ensures words { IfOk result (λ text. text.items ≡ kind.words fault) };
+}
+
+/// A file of a kind, under the name that the words give for it.
+#[derive(Clone, Copy)]
+pub struct File<'a, F: FileRole> {
+    pub kind: F,
+    pub name: &'a str,
 }

@@ -5,7 +5,7 @@ ghost use Rattle.command_files.specs.Files.{IsFileEnd, Says};
 ghost use Rattle.command_files.specs.Stage.{IsFetched, IsMeasured, IsSaid, IsStage, OnRead};
 
 use crate::answer::{Answer, read_fault, refusal};
-use crate::role::FileRole;
+use crate::role::{File, FileRole};
 use edge_io::{FetchFault, Shelf};
 use std::alloc::{AllocError, Global};
 use std::sync::ledger::Ledger;
@@ -80,19 +80,19 @@ fn said<F: FileRole>(
 /// What a file says, or the answer that ends the run there. Want of memory may come at any place.
 pub fn read_file<F: FileRole, S: Shelf, L: Ledger>(
     alloc: Global,
-    file: &F,
+    file: &File<'_, F>,
     shelf: &mut S,
     steps: &mut Steps<L>,
 ) -> Result<Stage<F::Said>, AllocError>
-    ensures stage { IfOk result (IsStage (IsFileEnd F.kind (F.name_of file.now) (S.contents shelf.old) (S.faults shelf.old) (S.faults shelf.new)) (Says F.kind (F.name_of file.now) (S.contents shelf.old))) }
+    ensures stage { IfOk result (IsStage (IsFileEnd F.kind file.now.name.now (S.contents shelf.old) (S.faults shelf.old) (S.faults shelf.new)) (Says F.kind file.now.name.now (S.contents shelf.old))) }
     ensures shape { IfOk result (OnRead F.shape) }
     ensures kept { (n : List ℕ) → S.contents shelf.new n ≡ S.contents shelf.old n }
     ensures later { (n : List ℕ) → S.faults shelf.old n ≤ S.faults shelf.new n }
-    ensures others { (n : List ℕ) → n ≢ F.name_of file.now → S.faults shelf.new n ≡ S.faults shelf.old n }
+    ensures others { (n : List ℕ) → n ≢ file.now.name.now → S.faults shelf.new n ≡ S.faults shelf.old n }
     ensures least { steps.old ≤ steps.new }
     ensures counted { IfOk result (OnRead (λ said. steps.new ≡ steps.old + F.steps_of said)) }
 {
-    match fetch(alloc, shelf, F::role(), F::most(), file.name())? {
+    match fetch(alloc, shelf, F::role(), F::most(), file.name)? {
         Stage::Read(bytes) => said::<F>(alloc, F::read(alloc, bytes.as_slice(), steps)),
         Stage::Ends(answer) => Ok(Stage::Ends(answer)),
     }

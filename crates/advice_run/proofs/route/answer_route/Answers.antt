@@ -1,30 +1,14 @@
-use Rattle.std.proofs.Common.{List, ℕ, codes}
+use Rattle.std.proofs.Common.{inr}
 use Rattle.rail_specs.specs.Cost.{traction_cost}
 use Rattle.advice_run.specs.Plan.{IsPlanAnswer}
-use Rattle.rail_specs.specs.Rules.{Rules}
-use Rattle.route_file.specs.Route.{rules_of_text}
-use Rattle.edge_io.specs.Faults.{Told}
-use Rattle.advice_run.specs.Outcome.{MayWrite}
-use Rattle.advice_run.specs.FaultWords.{route_fault_words}
-use Rattle.advice_run.specs.Words.{Route}
-use Rattle.advice_run.specs.declared.answer.Answer.{Answer}
-use Rattle.advice_run.proofs.AnswerLemmas.{ok_map}
-use Rattle.advice_run.proofs.StageLemmas.{ends_there, goes_on}
+use Rattle.command_files.specs.declared.answer.Answer.{Answer}
+use Rattle.advice_run.proofs.AnswerLemmas.{ok_map, rules_answered}
 use Rattle.advice_run.proofs.route.answer_route.Goals as goal
 
 pub returns-in-Read-clause-may : goal.returns-in-Read-clause-may
 returns-in-Read-clause-may g c =
-    let told : List ℕ → Told = g.S.Shelf.contents c.args.shelf.now in
-    let before : List ℕ → ℕ = g.S.Shelf.faults c.args.shelf.now in
-    let now : List ℕ → ℕ = g.S.Shelf.faults c.route_stage.new.shelf in
-    let says = rw c.in-Read.is at c.in_ok-rules.ensures.stage in
-    ok_map c.rules_answer.result (λ (a : Answer). IsPlanAnswer c.in-Read.rules c.args.asked.now.tolerance a.status a.text.items)
-    (λ (a : Answer). MayWrite (Route c.args.asked.now.file.now c.args.asked.now.tolerance) told before now a.status a.text.items)
-    (λ a h. goes_on (codes "route") c.args.asked.now.file.now told before now rules_of_text route_fault_words (λ (r : Rules). IsPlanAnswer traction_cost r c.args.asked.now.tolerance) c.in-Read.rules a.status a.text.items says h)
+    let says = rw c.in-Read.is at c.in_ok-said.ensures.stage in
+    let counted = rw c.in-Read.is at c.in_ok-said.ensures.counted in
+    ok_map c.rules_answer.result (λ (a : Answer). IsPlanAnswer traction_cost c.in-Read.said.0 c.args.asked.now.tolerance a.status a.text.items) _
+    (λ a h. inr (c.in-Read.said, (says, rules_answered c.args.asked.now.tolerance c.args.steps.now c.read_all.new.steps c.in-Read.said.0 a.status a.text.items counted h)))
     c.rules_answer.ensures
-
-pub returns-in-Ends-clause-may : goal.returns-in-Ends-clause-may
-returns-in-Ends-clause-may g c =
-    let ends = rw c.in-Ends.is at c.in_ok-rules.ensures.stage in
-    ends_there (codes "route") c.args.asked.now.file.now (g.S.Shelf.contents c.args.shelf.now) (g.S.Shelf.faults c.args.shelf.now) (g.S.Shelf.faults c.route_stage.new.shelf)
-    rules_of_text route_fault_words (λ (r : Rules). IsPlanAnswer traction_cost r c.args.asked.now.tolerance) c.in-Ends.answer.status c.in-Ends.answer.text.items ends
