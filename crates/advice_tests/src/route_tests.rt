@@ -190,8 +190,17 @@ fn faults_are_told(rt: HostRuntime) -> Result<(), Fail> {
     failing.failing_fetches.push(1)?;
     failing.runs = 2;
     let failed = run_words(alloc, &["route", "a.route"], failing)?;
-    assert_eq!(rt; failed.status, 1, "the first run's fault is none of the second's");
-    assert!(rt; failed.text.as_str().starts_with("read fault route\nadvice 1\ngap open\n"));
+    assert_eq!(rt;
+        failed.status,
+        1,
+        "the first run's fault is none of the second's"
+    );
+    assert!(rt;
+        failed
+            .text
+            .as_str()
+            .starts_with("read fault route\nadvice 1\ngap open\n")
+    );
 
     let mut short = plain(alloc);
     put_file(alloc, &mut short.files, "a.route", route.as_bytes())?;
