@@ -21,13 +21,7 @@ fn run_counted<R: Env + Files + Print + AllocGlobal, L: Ledger>(rt: &R, blank: B
     let mut steps: Steps<L> = Steps::new(blank);
     let mut shelf = FileShelf::new(rt.alloc(), rt);
     let mut sink = OutSink::new(io::writer(rt));
-    run_arguments(
-        rt.alloc(),
-        env::args(rt),
-        &mut shelf,
-        &mut sink,
-        &mut steps,
-    )
+    run_arguments(rt.alloc(), env::args(rt), &mut shelf, &mut sink, &mut steps)
 }
 
 fn main(rt: HostRuntime) -> ExitCode {

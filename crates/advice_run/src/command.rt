@@ -4,10 +4,10 @@ ghost use Rattle.std.specs.Prelude.{◌≡◌, ◌≤◌, ◌-◌, ℕ, List, If
 ghost use Rattle.advice_run.specs.Words.{command_by, command_of};
 ghost use Rattle.advice_run.specs.Outcome.{MayWrite, Names};
 
-use crate::usage::usage;
 use crate::command_line::{read_plan_words, read_route_words};
 use crate::plan::answer_plan;
 use crate::route::answer_route;
+use crate::usage::usage;
 use crate::words::Words;
 use command_files::Answer;
 use edge_io::Shelf;

@@ -9,7 +9,7 @@ use std::marker::Brand;
 use std::sync::ledger::{Blank, Ledger};
 use step_energy::Steps;
 
-/// What runs left: the status that the last ended with, and what they wrote.
+/// What a run left: the status that it ended with, and what it wrote.
 #[derive(Debug, PartialEq, Eq, Drop)]
 pub struct Ended {
     pub status: u8,
@@ -25,8 +25,6 @@ pub struct Setting {
     pub piece: usize,
     pub room: usize,
     pub failing_puts: Vec<u32>,
-    /// How often the words are run, one run after the other over the same files and the same stream.
-    pub runs: u32,
 }
 
 /// Files without faults, and a stream without end.
@@ -39,7 +37,6 @@ pub fn plain(alloc: Global) -> Setting
         piece: 1_000_000,
         room: 1_000_000,
         failing_puts: Vec::new(alloc),
-        runs: 1,
     }
 }
 
@@ -75,10 +72,7 @@ fn run_counted<L: Ledger>(
     let mut shelf = MemoryShelf::new(alloc, setting.files, setting.failing_fetches);
     let mut sink = MemorySink::new(alloc, setting.piece, setting.room, setting.failing_puts)?;
     let mut steps: Steps<L> = Steps::new(blank);
-    let mut status = 0;
-    for _ in 0..setting.runs {
-        status = run(alloc, &list, &mut shelf, &mut sink, &mut steps);
-    }
+    let status = run(alloc, &list, &mut shelf, &mut sink, &mut steps);
     let text = String::from_utf8_lossy(alloc, sink.bytes())?;
     Ok(Ended { status, text })
 }

@@ -1,17 +1,12 @@
 -- Joined rules from a standstill at the first call.
-use Rattle.std.proofs.Common.{ℕ, ◌≡◌, List, [], Result, codes, subst}
-use Rattle.std.specs.Prelude.{Ok, Err, IfOk, OnOk}
+use Rattle.std.proofs.Common.{ℕ, ◌≡◌, [], subst}
 use Rattle.joined_rules.specs.declared.setup.Setup.{Setup}
-use Rattle.joined_rules.specs.declared.fault.RulesFault.{RulesFault}
-use Rattle.joined_rules.specs.declared.fault.RulesFault.TheVariants.{NoMemory}
-use Rattle.joined_rules.specs.Joined.{Joins, Refuses, first_place}
+use Rattle.joined_rules.specs.Joined.{Joins, first_place}
 use Rattle.rail_specs.specs.Rules.{Rules}
 use Rattle.line_file.specs.declared.line.Line.{Line}
 use Rattle.line_file.specs.declared.service.Service.{Service}
 use Rattle.train_file.specs.declared.train.Train.{Train}
-use Rattle.command_files.specs.Answers.{IsRefusal}
-use Rattle.plan_files.specs.FaultWords.{rules_fault_words}
-use Rattle.plan_files.specs.FreshRules.{FreshRules, IsRulesRefusal, fresh_setup}
+use Rattle.plan_files.specs.FreshRules.{FreshRules, fresh_setup}
 
 -- a setup at rest at the first call
 pub fresh_is : (s : Setup) (service : Service) (step : ℕ) → s.step ≡ step → s.place ≡ first_place service.calls → s.speed ≡ 0 → s.clock ≡ 0 → s.stretches ≡ [] → s ≡ fresh_setup service step
@@ -21,13 +16,3 @@ fresh_is s service step a b c d e = λ i. record { step = a i; place = b i; spee
 pub fresh_joined : (line : Line) (train : Train) (service : Service) (step : ℕ) (s : Setup) (r : Rules) → s ≡ fresh_setup service step
     → Joins line train service s r → FreshRules line train service step r
 fresh_joined line train service step s r e j = subst (λ (q : Setup). Joins line train service q r) e j
-
--- the refusal of such rules
-pub fresh_refused : (line : Line) (train : Train) (service : Service) (step : ℕ) (s : Setup) (fault : RulesFault) (status : ℕ) (text : List ℕ) → s ≡ fresh_setup service step
-    → (fault ≡ NoMemory → ⊥) → Refuses line train service s fault → IsRefusal (codes "rules") (rules_fault_words fault) status text → IsRulesRefusal line train service step status text
-fresh_refused line train service step s fault status text e n f x = record {
-  fault = fault;
-  sound = n;
-  refused = subst (λ (q : Setup). Refuses line train service q fault) e f;
-  says = x;
-}
