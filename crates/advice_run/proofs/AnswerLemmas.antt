@@ -43,6 +43,7 @@ drive_answer r tolerance status text speeds energy met g t e m s x = inr (inr (
           on_time = t;
           costs = e;
           bounds = nothing_is_bound r;
+          no_less = λ none. omega (arith, ints);
           gap = m;
           ends = s;
           says = x;

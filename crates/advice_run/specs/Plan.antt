@@ -1,5 +1,5 @@
 -- The answer to a plan: which text and which status the rules of a run allow.
-use Rattle.std.specs.Prelude.{ℕ, ◌≡◌, List, ℤ, Bool, IsTrue, ◌↔◌, ◌⊎◌, if◌then◌else◌}
+use Rattle.std.specs.Prelude.{ℕ, ◌≡◌, List, ℤ, pos, ◌≤ℤ◌, Bool, IsTrue, ◌↔◌, ◌⊎◌, if◌then◌else◌}
 use Rattle.rail_specs.specs.Rules.{Rules, IsDrive, IsGreatestDrive, NoDrive, timing_at}
 use Rattle.rail_specs.specs.Times.{IsOnTimeUp, NoneOnTime, IsFirstLate, arrival_up}
 use Rattle.rail_specs.specs.Cost.{cost_of, IsBound, GapMet}
@@ -25,6 +25,8 @@ pub record IsDriveAnswer (cost : ℤ → ℤ) (r : Rules) (tolerance status : �
   pub on_time : IsOnTimeUp r speeds
   pub costs : energy ≡ cost_of cost r speeds
   pub bounds : IsBound cost r bound
+  -- where no work costs less than nothing, the bound is no less either
+  pub no_less : ((w : ℤ) → pos 0 ≤ℤ cost w) → pos 0 ≤ℤ bound
   pub gap : IsTrue met ↔ GapMet energy bound tolerance
   pub ends : status ≡ (if met then 0 else 1)
   pub says : text ≡ report_text r speeds energy bound met
