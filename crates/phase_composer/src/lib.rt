@@ -13,6 +13,3 @@ mod kept;
 
 pub use best::{Composed, Costed, compose, compose_with_cost};
 pub use kept::Kept;
-
-#[cfg(test)]
-mod tests;

@@ -11,6 +11,3 @@ mod proposer;
 pub use ask::{ask_all, drop_silent, improve};
 pub use dips::Dips;
 pub use proposer::Proposer;
-
-#[cfg(test)]
-mod tests;
