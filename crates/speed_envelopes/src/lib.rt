@@ -11,12 +11,14 @@ mod closure;
 mod find_ranges;
 mod greatest;
 mod least;
+mod narrowings;
 mod settle;
 mod speed_ranges;
 
 pub use closure::{drives_close, faster_is_on_time, narrowings_nest};
 pub use find_ranges::ranges;
 pub use greatest::{greatest_drive, greatest_from, greatest_under};
+pub use narrowings::{coasting, under_cap};
 pub use rail_specs::Narrow;
 pub use speed_ranges::Ranges;
 

@@ -3,8 +3,7 @@
 ghost use Rattle.std.specs.Prelude.{◌≡◌, ◌<◌, ◌≤◌};
 
 use crate::{greatest_drive, greatest_from, greatest_under, ranges};
-use drive_rules::{Rules, read_route};
-use drive_rules::RouteFault;
+use drive_rules::{RouteFault, Rules, read_route};
 use rail_specs::Narrow;
 use std::alloc::{AllocError, Global};
 use std::marker::Brand;

@@ -1,0 +1,3 @@
+pub mod FamilyLemmas
+pub mod CapLemmas
+pub mod CoastingLemmas
