@@ -21,7 +21,7 @@ use Rattle.rule_parts.specs.Shaped.{IsShaped}
 use Rattle.potential_table.proofs.LinkLemmas.{some_if}
 use Rattle.potential_table.specs.PricedLaws.{kept-can_drive, priced_costs}
 use Rattle.potential_table.specs.Bounds.{GivesBound}
-use Rattle.potential_table.proofs.Duality.{weak_duality}
+use Rattle.chain_duality.proofs.Duality.{potentials_dual}
 
 -- ---- sums
 
@@ -161,7 +161,7 @@ gives_bound r p values value s prices a parts points one is cost cells grows wit
     let laws = priced_costs pricing (record { grows = grows; within = within; shaped = s; prices = prices; timings = a }) in
     let count : length cells ≡ length r.steps + 1 = omega (arith, least.points, points) in
     let first : length (cells_of cells 0) ≡ 1 = omega (arith, least.counts 0 (omega (arith, count)), one) in
-    let dual = weak_duality (length r.steps) (priced_cost pricing) (low_cost pricing) laws cells count (λ k c l m. (adjacent k l).cells c m) values least in
+    let dual = potentials_dual (length r.steps) (priced_cost pricing) (low_cost pricing) laws cells count (λ k c l m. (adjacent k l).cells c m) values least in
     value_bounds pricing cells values value s a parts cover first dual is
 
 -- a potential less a charge, as it is computed in 128 bits

@@ -1,11 +1,17 @@
 -- Reading the values of a point's cells in the list of all values.
-use Rattle.std.proofs.Common.{ℕ, zero, suc, ◌≡◌, ◌<◌, ◌≤◌, ◌+◌, ◌-◌, ◌^◌, ◌∙◌, Option, None, List, [], length, get_or, drop, ap, sym, subst, arith, length-drop, length-take}
+use Rattle.std.proofs.Common.{ℕ, zero, suc, ◌≡◌, ◌<◌, ◌≤◌, ◌+◌, ◌-◌, ◌^◌, ◌∙◌, Option, Some, None, List, [], length, get_or, drop, ap, sym, subst, arith, length-drop, length-take}
 use Rattle.std.specs.Prelude.{ℤ, IfSome}
 use Rattle.std.specs.Int.RustNames.{unsigned_abs}
 use Rattle.std.proofs.lemmas.List.{get_or_default, get_or-drop, get_or-take}
 use Rattle.std.proofs.lemmas.List.FromFn.{length-map-range_with_len, get_or-map-range_with_len}
 use Rattle.bound_specs.specs.Chains.{values_of, value_at}
+use Rattle.potential_table.specs.Filling.{IsSumOf}
 use Rattle.potential_table.specs.Layout.{part_of, values_in, IsLayout}
+
+-- what a table of at most 4,000 steps holds is small
+in_table : (n : ℕ) (p : Option ℤ) → n ≤ 4000 → IsSumOf n p → IfSome p (λ q. unsigned_abs q ≤ 2 ^ 98)
+in_table n None few h = tt
+in_table n (Some p) few h = omega (arith, few, h)
 
 -- a list of starts never falls
 pub never_falls : (starts : List ℕ) → ((k : ℕ) → k + 1 < length starts → get_or starts k 0 ≤ get_or starts (k + 1) 0)
@@ -96,5 +102,25 @@ module _ (starts : List ℕ) (values : List (Option ℤ)) (view : List (List (Op
   -- what was read of the values is small
   pub small_seen : (s c : ℕ) (v : Option ℤ) → s ≡ get_or starts k s → c < length (values_of view k)
       → v ≡ get_or values (s + c) v → IfSome v (λ p. unsigned_abs p ≤ 2 ^ 98)
-  small_seen s c v e lt g = subst (λ (w : Option ℤ). IfSome w (λ p. unsigned_abs p ≤ 2 ^ 98)) (sym (value_read s c v e lt g))
-      (layout.small (s + c))
+  small_seen s c v e lt g =
+      let some : 0 < length starts - 1 = omega (arith, before_last) in
+      let few : length starts - 1 - 1 - 0 ≤ 4000 = omega (arith, layout.few) in
+      in_table (length starts - 1 - 1 - 0) v few (subst (IsSumOf (length starts - 1 - 1 - 0)) (sym (value_read s c v e lt g))
+      (layout.small 0 (s + c) (omega arith) some (omega (arith, layout.first))))
+
+  -- there are as many values at the point as from its start to the next one's
+  pub width_seen : (s t : ℕ) → s ≡ get_or starts k s → t ≡ get_or starts (k + 1) t → t - s ≡ length (values_of view k)
+  width_seen s t e g =
+      let last : t ≡ get_or starts (k + 1) 0 = g ∙ get_or_default starts (k + 1) t 0 before_last in
+      omega (arith, start_read s e, last, count starts values layout k before_last, ap (λ (v : List (List (Option ℤ))). length (values_of v k)) same)
+
+  -- and the next one's start is no earlier
+  pub starts_in_order : (s t : ℕ) → s ≡ get_or starts k s → t ≡ get_or starts (k + 1) t → s ≤ t
+  starts_in_order s t e g =
+      let last : t ≡ get_or starts (k + 1) 0 = g ∙ get_or_default starts (k + 1) t 0 before_last in
+      omega (arith, start_read s e, last, layout.rises k before_last)
+
+-- a table has at most 4,001 points
+pub few_points : (starts : List ℕ) (values : List (Option ℤ)) (view : List (List (Option ℤ))) → values_in starts values ≡ view → IsLayout starts values
+    → (n : ℕ) → length view ≡ n → n ≤ 4001
+few_points starts values view same layout n e = omega (arith, layout.few, points starts values layout, ap length same, e)

@@ -6,7 +6,7 @@ use Rattle.std.proofs.lemmas.Int.{ints}
 use Rattle.std.proofs.lemmas.Bool.{cases_lt}
 use Rattle.bound_specs.specs.Chains.{IsAtMost}
 use Rattle.potential_table.specs.Filling.{lesser, sum_found, IsLeastOf}
-use Rattle.potential_table.proofs.Orders.{at_most-refl, at_most-trans}
+use Rattle.chain_duality.proofs.Orders.{at_most-refl, at_most-trans}
 
 -- the lesser of two numbers, by the test that picks it, is at most the first
 chosen_first : (p q : ℤ) (b : Bool) → int_le p q ≡ b → IsAtMost (cond b (Some p) (Some q)) (Some p)

@@ -1,9 +1,11 @@
 pub mod BoundLemmas
-pub mod Duality
+pub mod ChainLemmas
+pub mod CopyLemmas
 pub mod LayoutLemmas
 pub mod LeastLemmas
 pub mod LinkLemmas
-pub mod Orders
+pub mod PriceLines
+pub mod RenewLemmas
 pub mod StartLemmas
 pub mod StepBack
 pub mod TableLemmas

@@ -8,7 +8,7 @@ use Rattle.bound_specs.specs.declared.Cell.{Cell}
 use Rattle.bound_specs.specs.Cells.{cells_of, cell_at, no_cell}
 use Rattle.bound_specs.specs.Chains.{plus, IsAtMost, cost_along, RunThrough, IsLeastChain}
 use Rattle.potential_table.specs.Filling.{IsLeastOf, through}
-use Rattle.potential_table.proofs.Orders.{at_most-trans, at_most-refl, plus_rises, second_part}
+use Rattle.chain_duality.proofs.Orders.{at_most-trans, at_most-refl, plus_rises, second_part}
 
 -- some chain through these points costs v, where v is there
 abbrev IsReached : (ℕ → Cell → Cell → Option ℤ) → ℕ → List (List Cell) → Cell → Option ℤ → Type 0

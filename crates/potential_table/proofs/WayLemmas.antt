@@ -7,14 +7,10 @@ use Rattle.std.proofs.lemmas.Bool.{cases_lt}
 use Rattle.bound_specs.specs.declared.Cell.{Cell}
 use Rattle.bound_specs.specs.Cells.{no_cell, IsCell}
 use Rattle.bound_specs.specs.Chains.{plus, IsAtMost}
+use Rattle.chain_duality.proofs.Orders.{if_some, below_if}
 use Rattle.potential_table.specs.declared.ways.Way.{Way}
 use Rattle.potential_table.specs.Filling.{through, IsLeastOf, IsSmallSum}
 use Rattle.potential_table.specs.Ways.{no_way, way_at, ways_with, AreWays, AreUsable, by_way}
-
--- what holds where there is a number, by what holds there
-if_some : (v : Option ℤ) (P Q : ℤ → Type 0) → ((p : ℤ) → P p → Q p) → IfSome v P → IfSome v Q
-if_some None P Q f h = tt
-if_some (Some p) P Q f h = f p h
 
 -- where way j begins, and what it costs
 abbrev Begins : List Way → List Cell → (ℕ → Option ℤ) → ℕ → ℕ → Type 0
@@ -82,12 +78,6 @@ module _ (ways : List Way) (cells : List Cell) (value : ℕ → Option ℤ) (m :
   pub ways_more : (p : Option ℤ) (new : List Way) → value m ≡ p → new ≡ ways_with ways (get_or cells m no_cell) p → AreWays new cells value (m + 1)
   ways_more None new e is = subst (λ (ws : List Way). AreWays ws cells value (m + 1)) (sym is) (ways_kept e)
   ways_more (Some p) new e is = subst (λ (ws : List Way). AreWays ws cells value (m + 1)) (sym is) (ways_pushed p e)
-
--- a link isn't worth more than what lies beyond it
-below_if : (v l b : Option ℤ) → IfSome b (λ p. IsAtMost v (plus l (Some p))) → IsAtMost v (plus l b)
-below_if v None b h = tt
-below_if v (Some l) None h = tt
-below_if v (Some l) (Some b) h = h
 
 module _ (ways : List Way) (cells : List Cell) (value : ℕ → Option ℤ) (h : AreWays ways cells value (length cells)) where
   -- ways from intervals of speeds, whose values are small

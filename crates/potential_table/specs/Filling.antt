@@ -3,7 +3,7 @@ use Rattle.std.specs.Prelude.{ℕ, ◌+◌, ◌*◌, ◌^◌, ◌<◌, ◌≤◌
 use Rattle.std.specs.Int.RustNames.{unsigned_abs}
 use Rattle.bound_specs.specs.declared.Cell.{Cell}
 use Rattle.bound_specs.specs.Cells.{cells_of, cell_at, no_cell, IsCell}
-use Rattle.bound_specs.specs.Chains.{plus, IsAtMost, IsLeastChain}
+use Rattle.bound_specs.specs.Chains.{plus, IsAtMost, value_at}
 
 -- the lesser of two numbers; none stands above every number
 abbrev pub lesser : Option ℤ → Option ℤ → Option ℤ
@@ -46,10 +46,24 @@ pub record AreStarts (starts : List ℕ) (cells : List (List Cell)) : Type 0 whe
   pub first : slice_index starts 0 ≡ 0
   pub next : (k : ℕ) → k < length cells → slice_index starts (k + 1) ≡ slice_index starts k + length (cells_of cells k)
 
--- the values of the points from point i on are those of the least chains, and no other cell has a value yet
-pub record IsFilled (low : ℕ → Cell → Cell → Option ℤ) (cells : List (List Cell)) (starts : List ℕ) (values : List (Option ℤ))
-    (i : ℕ) : Type 0 where
-  pub least : (k c : ℕ) → i ≤ k → k < length cells → c < length (cells_of cells k)
-      → IsLeastChain low k cells (cell_at cells k c) (slice_index_or values (slice_index starts k + c) None)
-  pub empty : (j : ℕ) → j < slice_index starts i → slice_index_or values j None ≡ None
-  pub small : (j : ℕ) → IsSmallSum (slice_index_or values j None)
+-- a number is within so many times 2^86, as the sum of so many small costs is, where there is one
+abbrev pub IsSumOf : ℕ → Option ℤ → Type 0
+IsSumOf n p = IfSome p (λ q. unsigned_abs q ≤ n * 2 ^ 86)
+
+-- of so many points the values from point i on are as small as sums of the steps behind them are
+abbrev pub AreSmallFrom : List ℕ → ℕ → List (Option ℤ) → ℕ → Type 0
+AreSmallFrom starts points values i =
+    (m j : ℕ) → i ≤ m → m < points → slice_index starts m ≤ j → IsSumOf (points - 1 - m) (slice_index_or values j None)
+
+-- the values of the points from point i up to point k are each the least over the links to the next point and its values
+abbrev pub IsFilled : (ℕ → Cell → Cell → Option ℤ) → List (List Cell) → List ℕ → List (Option ℤ) → ℕ → ℕ → Type 0
+IsFilled low cells starts values i k =
+    (m c : ℕ) → i ≤ m → m < k → c < length (cells_of cells m)
+    → IsLeastOf (through low m (cell_at cells m c) (cells_of cells (m + 1)) (value_from values (slice_index starts (m + 1))))
+    (length (cells_of cells (m + 1))) (value_from values (slice_index starts m) c)
+
+-- each value before point k is the least over the links to the next point and its values
+abbrev pub AreLinked : (ℕ → Cell → Cell → Option ℤ) → ℕ → List (List Cell) → List (List (Option ℤ)) → Type 0
+AreLinked low k cells values =
+    (m c : ℕ) → m < k → c < length (cells_of cells m)
+    → IsLeastOf (through low m (cell_at cells m c) (cells_of cells (m + 1)) (value_at values (m + 1))) (length (cells_of cells (m + 1))) (value_at values m c)

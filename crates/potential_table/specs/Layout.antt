@@ -1,7 +1,7 @@
 -- How the values of all points stand in one list.
-use Rattle.std.specs.Prelude.{ℕ, ◌+◌, ◌-◌, ◌^◌, ◌<◌, ◌≤◌, ◌≡◌, ℤ, List, Option, None, IfSome, length, map, take, drop, slice_index, slice_index_or}
+use Rattle.std.specs.Prelude.{ℕ, ◌+◌, ◌-◌, ◌<◌, ◌≤◌, ◌≡◌, ℤ, List, Option, length, map, take, drop, slice_index}
 use Rattle.std.specs.List.{range_with_len}
-use Rattle.std.specs.Int.RustNames.{unsigned_abs}
+use Rattle.potential_table.specs.Filling.{AreSmallFrom}
 
 -- the values of point k
 abbrev pub part_of : List ℕ → List (Option ℤ) → ℕ → List (Option ℤ)
@@ -14,7 +14,8 @@ values_in starts values = map (part_of starts values) (range_with_len 0 (length 
 -- where the values of each point begin, and where they all end
 pub record IsLayout (starts : List ℕ) (values : List (Option ℤ)) : Type 0 where
   pub some : 1 ≤ length starts
+  pub few : length starts ≤ 4002
   pub first : slice_index starts 0 ≡ 0
   pub rises : (k : ℕ) → k + 1 < length starts → slice_index starts k ≤ slice_index starts (k + 1)
   pub last : slice_index starts (length starts - 1) ≡ length values
-  pub small : (j : ℕ) → IfSome (slice_index_or values j None) (λ p. unsigned_abs p ≤ 2 ^ 98)
+  pub small : AreSmallFrom starts (length starts - 1) values 0

@@ -1,7 +1,10 @@
 pub mod Bounds
 pub mod Filling
+pub mod FrontLaws
+pub mod Fronts
 pub mod Layout
 pub mod PricedLaws
+pub mod Searching
 pub mod Soundness
 pub mod Slopes
 pub mod Ways

@@ -1,8 +1,8 @@
 //! Least chains of cells, by a table from the last point backwards.
 ghost use Rattle.std.specs.Prelude.{◌≡◌, ℕ, pos, ◌+◌, ◌<◌, ◌≤◌, ◌++◌, length, replicate, Some, None, IfOk, OnOk, slice_index};
 ghost use Rattle.bound_specs.specs.Cells.{cells_of, IsCell};
-ghost use Rattle.bound_specs.specs.Chains.{plus, IsSmall, ArePotentials, WeakDuality};
-ghost use Rattle.potential_table.specs.Filling.{lesser, sum_found, value_in, value_from, AreCells, IsSmallSum, IsLeastOf, AreStarts, IsFilled};
+ghost use Rattle.bound_specs.specs.Chains.{plus, values_of, value_at, IsSmall, ArePotentials, WeakDuality};
+ghost use Rattle.potential_table.specs.Filling.{lesser, sum_found, value_in, value_from, AreCells, AreSmallFrom, IsSmallSum, IsLeastOf, AreStarts, IsFilled, AreLinked};
 ghost use Rattle.potential_table.specs.Ways.{by_way, AreLeastByWays, AreUsable};
 
 use crate::table::Potentials;
@@ -29,34 +29,39 @@ pub fn potentials<K: CellCost>(
     cells.known();
     let mut starts = Vec::new(alloc);
     let mut values = Vec::new(alloc);
-    lay_out(cells, cost.steps(), &mut starts, &mut values)?;
-    fill(alloc, cells, cost, starts.as_slice(), values.as_mut_slice())?;
-    Ok(Potentials { values, starts })
+    lay_out(cells, &mut starts, &mut values)?;
+    set_from(&mut values, starts[cost.steps()]);
+    let table = filled(alloc, cells, cost, starts, values)?;
+    Ok(table)
 }
 
-/// Appends a value for each cell of each point, 0 at the last point and none before it, and where each point's values begin.
-fn lay_out(
+/// Appends a value that isn't there for each cell of each point, and where each point's values begin.
+pub(crate) fn lay_out(
     cells: &Cells,
-    steps: usize,
     starts: &mut Vec<usize>,
     values: &mut Vec<Option<i128>>,
 ) -> Result<(), AllocError>
-    requires points { length cells.now ≡ steps + 1 }
     requires no_starts { length starts.old.items ≡ 0 }
     requires no_values { length values.old.items ≡ 0 }
     ensures starts { OnOk result (AreStarts starts.new.items cells.now) }
-    ensures length { OnOk result (length values.new.items ≡ slice_index starts.new.items (steps + 1)) }
-    ensures before { OnOk result ((j : ℕ) → j < slice_index starts.new.items steps → value_in values.new.items j ≡ None) }
-    ensures last { OnOk result ((c : ℕ) → c < length (cells_of cells.now steps) → value_in values.new.items (slice_index starts.new.items steps + c) ≡ Some (pos 0)) }
+    ensures length { OnOk result (length values.new.items ≡ slice_index starts.new.items (length cells.now)) }
 {
     starts.push(0)?;
-    for k in 0..steps {
+    for k in 0..cells.points() {
         push_values(values, cells.of(k), None)?;
         starts.push(values.len())?;
     }
-    push_values(values, cells.of(steps), Some(0))?;
-    starts.push(values.len())?;
     Ok(())
+}
+
+/// Sets the values from a place on to 0.
+fn set_from(values: &mut Vec<Option<i128>>, start: usize)
+    ensures length { length values.new.items ≡ length values.old.items }
+    ensures zero { (j : ℕ) → start ≤ j → j < length values.old.items → value_in values.new.items j ≡ Some (pos 0) }
+{
+    for j in start..values.len() {
+        values[j] = Some(0);
+    }
 }
 
 /// Appends one value so many times.
@@ -73,7 +78,29 @@ fn push_values(
     Ok(())
 }
 
-/// Fills the table from the last point backwards.
+/// The table with the values of the points before the cost's last one filled in. The values from that point on stay. Or want of memory.
+pub(crate) fn filled<K: CellCost>(
+    alloc: Global,
+    cells: &Cells,
+    cost: &K,
+    starts: Vec<usize>,
+    mut values: Vec<Option<i128>>,
+) -> Result<Potentials, AllocError>
+    requires inside { K.step_count cost.now + 1 ≤ length cells.now }
+    requires few { length cells.now ≤ 4001 }
+    requires starts { AreStarts starts.items cells.now }
+    requires values { length values.items ≡ slice_index starts.items (length cells.now) }
+    requires small { AreSmallFrom starts.items (length cells.now) values.items (K.step_count cost.now) }
+    ensures points { IfOk result (λ table. length table ≡ length cells.now) }
+    ensures counts { IfOk result (λ table. (k : ℕ) → k < length cells.now → length (values_of table k) ≡ length (cells_of cells.now k)) }
+    ensures linked { IfOk result (λ table. AreLinked (K.low_cost cost.now) (K.step_count cost.now) cells.now table) }
+    ensures kept { IfOk result (λ table. (k c : ℕ) → K.step_count cost.now ≤ k → k < length cells.now → c < length (cells_of cells.now k) → value_at table k c ≡ value_from values.items (slice_index starts.items k) c) }
+{
+    fill(alloc, cells, cost, starts.as_slice(), values.as_mut_slice())?;
+    Ok(Potentials { values, starts })
+}
+
+/// Fills in the values of the points before the cost's last one, from there backwards. The values from that point on stay.
 fn fill<K: CellCost>(
     alloc: Global,
     cells: &Cells,
@@ -81,12 +108,14 @@ fn fill<K: CellCost>(
     starts: &[usize],
     values: &mut [Option<i128>],
 ) -> Result<(), AllocError>
-    requires points { length cells.now ≡ K.step_count cost.now + 1 }
+    requires inside { K.step_count cost.now + 1 ≤ length cells.now }
     requires few { length cells.now ≤ 4001 }
     requires starts { AreStarts starts.now cells.now }
     requires values { length values.old ≡ slice_index starts.now (length cells.now) }
-    requires last { IsFilled (K.low_cost cost.now) cells.now starts.now values.old (K.step_count cost.now) }
-    ensures { OnOk result (IsFilled (K.low_cost cost.now) cells.now starts.now values.new 0) }
+    requires small { AreSmallFrom starts.now (length cells.now) values.old (K.step_count cost.now) }
+    ensures filled { OnOk result (IsFilled (K.low_cost cost.now) cells.now starts.now values.new 0 (K.step_count cost.now)) }
+    ensures small { OnOk result (AreSmallFrom starts.now (length cells.now) values.new 0) }
+    ensures kept { OnOk result ((j : ℕ) → slice_index starts.now (K.step_count cost.now) ≤ j → value_in values.new j ≡ value_in values.old j) }
 {
     cells.known();
     let mut here = Vec::new(alloc);

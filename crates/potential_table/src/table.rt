@@ -38,4 +38,12 @@ impl Potentials {
     {
         self.values[self.starts[point] + cell]
     }
+
+    /// How many values there are at a point: after `potentials` and `renew` as many as the point has cells. It takes no memory.
+    pub fn width(&self, point: usize) -> usize
+        requires { point < length self.now }
+        ensures { result ≡ length (values_of self.now point) }
+    {
+        self.starts[point + 1] - self.starts[point]
+    }
 }

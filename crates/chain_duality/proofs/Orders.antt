@@ -40,3 +40,14 @@ pub plus_within : (m n : ℕ) (p q : Option ℤ) → IsWithin m p → IsWithin n
 plus_within m n None q h g = tt
 plus_within m n (Some p) None h g = tt
 plus_within m n (Some p) (Some q) h g = omega (arith, ints, h, g)
+
+-- what holds where there is a number, by what holds there
+pub if_some : (v : Option ℤ) (P Q : ℤ → Type 0) → ((p : ℤ) → P p → Q p) → IfSome v P → IfSome v Q
+if_some None P Q f h = tt
+if_some (Some p) P Q f h = f p h
+
+-- a number is at most a sum, where it is wherever the second part is there
+pub below_if : (v l b : Option ℤ) → IfSome b (λ p. IsAtMost v (plus l (Some p))) → IsAtMost v (plus l b)
+below_if v None b h = tt
+below_if v (Some l) None h = tt
+below_if v (Some l) (Some b) h = h
