@@ -6,8 +6,8 @@ ghost use Rattle.rail_specs.specs.Rules.{IsDrive};
 ghost use Rattle.drive_report.specs.Phase.{phase_at, phase_name};
 ghost use Rattle.drive_report.specs.Report.{gap_line, speeds_line, kilojoules_of, ends_run, run_start, phase_line, phase_lines, time_line, energy_lines, report_text};
 
-use crate::lines::put_head;
 use crate::kinds::Phase;
+use crate::lines::put_head;
 use crate::phases::phase;
 use drive_rules::Rules;
 use rail_base::{put_line, put_number_line, put_spaced, put_word};

@@ -10,6 +10,7 @@ mod lines;
 mod number;
 mod texts;
 
+pub use bound_specs::Cell;
 pub use cell_cost::CellCost;
 pub use cost::{StepCost, Traction};
 pub use gap::is_gap_met;
@@ -18,5 +19,4 @@ pub use lines::{Fields, Lines, text_lines};
 pub use number::{
     natural_within, put_number, read_count, read_digits, read_field, read_number, trim_spaces,
 };
-pub use bound_specs::Cell;
 pub use texts::{put_line, put_number_line, put_spaced, put_word};

@@ -4,9 +4,9 @@
 mod cells;
 mod laws;
 
+pub use bound_specs::Cell;
 pub use cells::Cells;
 pub use laws::{fitting_cells_cover, splitting_keeps_speeds, whole_cells_fit};
-pub use bound_specs::Cell;
 
 #[cfg(test)]
 mod tests;

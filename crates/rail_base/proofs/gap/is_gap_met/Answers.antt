@@ -17,4 +17,4 @@ returns c =
     let same : to_z w128 (of_z w128 c.args.energy) ≡ c.args.energy = omega (arith, ints, c.requires.energy) in
     rw (difference c.args.energy c.args.bound c.requires.energy c.requires.bound)
     (test (pos 1000 *ℤ (c.args.energy -ℤ c.args.bound)) (pos (c.args.tolerance * unsigned_abs c.args.energy)) c.share_of-share.result c.share_of-share.ensures.small
-        (c.share_of-share.ensures.value ∙ ap (λ (z : ℤ). pos (c.args.tolerance * unsigned_abs z)) same))
+    (c.share_of-share.ensures.value ∙ ap (λ (z : ℤ). pos (c.args.tolerance * unsigned_abs z)) same))
