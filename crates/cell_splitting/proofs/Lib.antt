@@ -1,0 +1,3 @@
+pub mod SplitLemmas
+pub mod Halving
+pub mod Counting
