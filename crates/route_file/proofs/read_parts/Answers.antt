@@ -69,7 +69,7 @@ returns-in_err-lists-clause-made g c =
     let left = c.read_heading.new.lines in
     let b : IsBehind ls h left = record { heading = c.in_ok-heading.ensures.value; in_range = c.in_ok-heading.ensures.heading; taken = c.in_ok-heading.ensures.rest } in
     rw r (counts_passed_on StepLists Parts c.in_err-lists.field-0.0 (row_counts h.train.inertia h.train.c 7 left) (rows_on (lines c.args.text.now)) c.args.steps.now c.read_steps.new.steps
-        (behind ls (lines c.args.text.now) h left c.text_lines-lines.ensures b) c.in_err-lists.ensures.made)
+    (behind ls (lines c.args.text.now) h left c.text_lines-lines.ensures b) c.in_err-lists.ensures.made)
 
 pub returns-clause-made : goal.returns-clause-made
 returns-clause-made g c =
