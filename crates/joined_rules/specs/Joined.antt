@@ -1,5 +1,5 @@
 -- The rules that a line, a train, a service and a setup give together.
-use Rattle.std.specs.Prelude.{ℕ, ◌+◌, ◌-◌, ◌*◌, ◌<◌, ◌≤◌, ◌≡◌, ◌≢◌, ◌==◌, ◌||◌, ◌⊎◌, ◌++◌, ℤ, pos, ◌-ℤ◌, ◌≤ℤ◌, Bool, true, List, Option, Some, None, is_some, IfSome, if◌then◌else◌, length, map, slice_index, slice_index_or}
+use Rattle.std.specs.Prelude.{ℕ, ◌+◌, ◌-◌, ◌*◌, ◌<◌, ◌≤◌, ◌≡◌, ◌≢◌, ◌==◌, ◌||◌, ◌⊎◌, ◌++◌, ℤ, pos, ◌-ℤ◌, ◌≤ℤ◌, Bool, true, List, Option, Some, None, Result, Ok, Err, is_some, IfSome, if◌then◌else◌, length, map, slice_index, slice_index_or}
 use Rattle.rail_specs.specs.declared.StepNumbers.{StepNumbers}
 use Rattle.rail_specs.specs.declared.Timing.{Timing}
 use Rattle.rail_specs.specs.Grid.{IsGrid}
@@ -204,6 +204,17 @@ Refuses line train service setup (fault.Outside n) = RefusesPlaces line service 
 Refuses line train service setup fault.TooManySteps = RefusesPlaces line service setup fault.TooManySteps
 Refuses line train service setup (fault.StopsTooClose n) = RefusesPlaces line service setup (fault.StopsTooClose n)
 Refuses line train service setup fault.NoMemory = Unit {0}
+
+-- the counter shows the rows that were made: one for each step on `Ok`, none where the calls or the places are refused, and up to the row
+-- that is refused, that row too; where memory runs out, none, or no more than the steps
+abbrev pub CountsRows : {A : Type 0} → Result A RulesFault → Line → Service → Setup → ℕ → ℕ → Type 0
+CountsRows (Ok x) line service setup old new = (places : List ℕ) × IsAccepted line service setup places × (new + 1 ≡ old + length places)
+CountsRows (Err (fault.DragTooGreat i)) line service setup old new = new ≡ old + (i + 1)
+CountsRows (Err (fault.Outside n)) line service setup old new = new ≡ old
+CountsRows (Err fault.TooManySteps) line service setup old new = new ≡ old
+CountsRows (Err (fault.StopsTooClose n)) line service setup old new = new ≡ old
+CountsRows (Err fault.NoMemory) line service setup old new =
+    (old ≤ new) × ((new ≡ old) ⊎ ((places : List ℕ) × IsAccepted line service setup places × (new + 1 ≤ old + length places)))
 
 -- the joined rules, where nothing refuses them
 pub record Joins (line : Line) (train : Train) (service : Service) (setup : Setup) (r : Rules) : Type 0 where

@@ -1,5 +1,5 @@
 -- What the parts of the joined rules are, as they are made one after another.
-use Rattle.std.specs.Prelude.{ℕ, ◌+◌, ◌-◌, ◌<◌, ◌≤◌, ◌≡◌, ◌⊎◌, ℤ, pos, Bool, true, false, List, length, slice_index, slice_index_or}
+use Rattle.std.specs.Prelude.{ℕ, ◌+◌, ◌-◌, ◌<◌, ◌≤◌, ◌≡◌, ◌⊎◌, ℤ, pos, Bool, true, false, Result, Ok, Err, List, length, slice_index, slice_index_or}
 use Rattle.std.specs.Int.RustNames.{unsigned_abs}
 use Rattle.rail_specs.specs.declared.StepNumbers.{StepNumbers}
 use Rattle.rail_specs.specs.Rules.{no_step}
@@ -87,6 +87,16 @@ RefusesRows train places count fault.NoMemory = Unit {0}
 RefusesRows train places count (fault.Outside n) = ⊥
 RefusesRows train places count fault.TooManySteps = ⊥
 RefusesRows train places count (fault.StopsTooClose n) = ⊥
+
+-- the counter shows the rows that were made: each of so many, or those up to the one that is refused, that one too; where memory runs
+-- out, no more than all
+abbrev pub CountsSteps : {A : Type 0} → Result A RulesFault → ℕ → ℕ → ℕ → Type 0
+CountsSteps (Ok x) count old new = new ≡ old + count
+CountsSteps (Err (fault.DragTooGreat i)) count old new = new ≡ old + (i + 1)
+CountsSteps (Err fault.NoMemory) count old new = (old ≤ new) × (new ≤ old + count)
+CountsSteps (Err (fault.Outside n)) count old new = ⊥
+CountsSteps (Err fault.TooManySteps) count old new = ⊥
+CountsSteps (Err (fault.StopsTooClose n)) count old new = ⊥
 
 -- the refusal of a grid that is too long; memory may run out
 abbrev pub RefusesGrid : Line → Service → Setup → RulesFault → Type 0
