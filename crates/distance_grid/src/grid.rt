@@ -57,6 +57,13 @@ impl Grid {
     {
         self.places.as_slice()
     }
+
+    /// The places, as a list of the caller's own. It takes no memory.
+    pub fn into_places(self) -> Vec<u32>
+        ensures { result.items ≡ self }
+    {
+        self.places
+    }
 }
 
 /// The places of the grid, however many they are.

@@ -5,7 +5,7 @@ use std::alloc::Global;
 /// The places of a grid, as far as they are those that are wanted.
 fn has_places(grid: Result<Grid, GridFault>, wanted: &[u32]) -> bool {
     match grid {
-        Ok(grid) => grid.places() == wanted,
+        Ok(grid) => grid.places() == wanted && grid.into_places().as_slice() == wanted,
         Err(_) => false,
     }
 }

@@ -2,6 +2,7 @@
 use Rattle.std.proofs.Common.{ℕ, zero, suc, ◌≡◌, ◌<◌, ◌≤◌, ◌+◌, ◌^◌, ◌↔◌, Option, None, Some, List, length, get_or, refl, sym, subst, inl, inr, arith}
 use Rattle.std.specs.Prelude.{ℤ, pos, ◌<ℤ◌, ◌≤ℤ◌, slice_index, Result, Ok, Err, IfOk, IfErr, IsTrue, is_ok}
 use Rattle.std.specs.Int.RustNames.{unsigned_abs}
+use Rattle.std.specs.Option.{option_map}
 use Rattle.std.proofs.lemmas.Int.{ints}
 use Rattle.std.proofs.lemmas.Bool.{cases_eq}
 use Rattle.std.proofs.lemmas.Bool.Decides.{nat_tests}
@@ -43,11 +44,9 @@ point_kept r speeds k h = grind (arith, nat_tests)
 pub kept_point : (r : Rules) (speeds : List ℕ) (k : ℕ) → PointKept r k (slice_index speeds k) → point_fault r speeds k ≡ None
 kept_point r speeds k h = grind (arith, nat_tests)
 
-pub rule_kept : (r : Rules) (i v0 v1 : ℕ) → step_rule r i v0 v1 ≡ None → IsStepKept r i v0 v1
-rule_kept r i v0 v1 h = grind (arith, nat_tests, ints)
-
-pub kept_rule : (r : Rules) (i v0 v1 : ℕ) → IsStepKept r i v0 v1 → step_rule r i v0 v1 ≡ None
-kept_rule r i v0 v1 h = grind (arith, nat_tests, ints)
+-- a step is kept exactly where none of its tests finds a rule broken
+pub kept_tests : (r : Rules) (i v0 v1 : ℕ) → IsStepKept r i v0 v1 ↔ (step_rule r i v0 v1 ≡ None)
+kept_tests r i v0 v1 = (λ k. grind (arith, nat_tests, ints), λ h. grind (arith, nat_tests, ints))
 
 -- positive work within that of the traction breaks no rule on forces
 pub pulled : (r : Rules) (i v0 v1 : ℕ) (w : ℤ) → w ≡ work (step_at r i) v0 v1 → pos 1 ≤ℤ w → w ≤ℤ pos (traction_work r i v1) → force_rule r i v0 v1 ≡ None
@@ -57,14 +56,20 @@ pulled r i v0 v1 w e some h = grind (arith, ints)
 pub kept_with_cost : (r : Rules) (i v0 v1 : ℕ) (cost : ℤ) (result : Result ℤ Rule) →
     IfOk result (λ c. (step_rule r i v0 v1 ≡ None) × (c ≡ cost) × (unsigned_abs c ≤ 2 ^ 62)) → IfErr result (λ rule. step_rule r i v0 v1 ≡ Some rule) →
     IsTrue (is_ok result) ↔ IsStepKept r i v0 v1
-kept_with_cost r i v0 v1 cost (Ok w) h e = (λ _. rule_kept r i v0 v1 h.0, λ _. refl)
-kept_with_cost r i v0 v1 cost (Err rule) h e = (λ b. cc, λ k. let n = kept_rule r i v0 v1 k in cc)
+kept_with_cost r i v0 v1 cost (Ok w) h e = (λ _. (kept_tests r i v0 v1).1 h.0, λ _. refl)
+kept_with_cost r i v0 v1 cost (Err rule) h e = (λ b. cc, λ k. let n = (kept_tests r i v0 v1).0 k in cc)
 
+-- where nothing comes of a map, there was nothing
+option_map-none : {X Y : Type 0} (f : X → Y) (o : Option X) → option_map f o ≡ None → o ≡ None
+option_map-none f None h = refl
+option_map-none f (Some x) h = absurd (cc h)
+
+-- and so is a step of a list of speeds
 pub step_kept : (r : Rules) (speeds : List ℕ) (i : ℕ) → step_fault r speeds i ≡ None → IsStepKept r i (slice_index speeds i) (slice_index speeds (i + 1))
-step_kept r speeds i h = grind (arith, nat_tests, ints)
+step_kept r speeds i h = (kept_tests r i (slice_index speeds i) (slice_index speeds (i + 1))).1 (option_map-none _ _ h)
 
 pub kept_step : (r : Rules) (speeds : List ℕ) (i : ℕ) → IsStepKept r i (slice_index speeds i) (slice_index speeds (i + 1)) → step_fault r speeds i ≡ None
-kept_step r speeds i h = grind (arith, nat_tests, ints)
+kept_step r speeds i k = rw ((kept_tests r i (slice_index speeds i) (slice_index speeds (i + 1))).0 k) refl
 
 -- a timing point without a fault is reached in time
 timing_kept : (r : Rules) (speeds : List ℕ) (j : ℕ) → timing_fault r speeds j ≡ None → pos (arrival_up r speeds (get_or r.timings j no_timing).point) ≤ℤ (get_or r.timings j no_timing).latest

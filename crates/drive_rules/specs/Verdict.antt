@@ -1,11 +1,11 @@
 -- The first rule that a list of speeds breaks.
-use Rattle.std.specs.Prelude.{ℕ, ◌+◌, ◌≡◌, ◌<◌, ◌≤◌, ℤ, pos, neg_ℤ, List, length, slice_index, Option, Some, None, ◌==◌, nat_lt, if◌then◌else◌, ◌||◌}
+use Rattle.std.specs.Prelude.{ℕ, ◌+◌, ◌≡◌, ◌<◌, ◌≤◌, ℤ, pos, neg_ℤ, Bool, List, [], ◌∷◌, map, length, slice_index, Option, Some, None, ◌==◌, nat_lt, if◌then◌else◌, ◌||◌}
 use Rattle.std.specs.Int.RustNames.{int_lt, unsigned_abs}
 use Rattle.std.specs.Option.{option_map, option_or}
 use Rattle.rail_specs.specs.Rules.{Rules, is_stop, step_at, timing_at, traction_work, brake_work}
 use Rattle.rail_specs.specs.Times.{arrival_up}
 use Rattle.rail_specs.specs.Step.{work}
-use Rattle.rail_base.specs.First.{first_below}
+use Rattle.rail_base.specs.First.{first_below, first_in}
 use Rattle.drive_rules.specs.declared.judge.Rule.{Rule}
 use Rattle.drive_rules.specs.declared.judge.Rule.TheVariants.{Length, Start, Stop, Standing, Limit, Top, Traction, Brake, Late}
 use Rattle.drive_rules.specs.declared.judge.Judged.{Judged}
@@ -18,18 +18,31 @@ point_rule r k v =
     else if is_stop r k then (if v == 0 then None else Some Stop)
     else if v == 0 then Some Standing else None
 
+-- the rules on forces of step i from v0 to v1, each with the test that it is broken
+abbrev pub force_tests : Rules → ℕ → ℕ → ℕ → List (Bool × Rule)
+force_tests r i v0 v1 =
+    (int_lt (pos (traction_work r i v1)) (work (step_at r i) v0 v1), Traction)
+    ∷ (int_lt (work (step_at r i) v0 v1) (neg_ℤ (pos (brake_work r i v0))), Brake)
+    ∷ []
+
+-- the rules of step i from v0 to v1 in the order in which they are tried, each with the test that it is broken
+abbrev pub step_tests : Rules → ℕ → ℕ → ℕ → List (Bool × Rule)
+step_tests r i v0 v1 =
+    (nat_lt (slice_index r.limits i) v0 || nat_lt (slice_index r.limits i) v1, Limit)
+    ∷ (nat_lt r.top v0 || nat_lt r.top v1, Top)
+    ∷ force_tests r i v0 v1
+
+-- the first of some rules that is broken
+abbrev pub first_broken : List (Bool × Rule) → Option Rule
+first_broken tests = first_in (map (λ t. if t.0 then Some t.1 else None) tests)
+
 -- the first rule on forces that step i breaks from v0 to v1
 abbrev pub force_rule : Rules → ℕ → ℕ → ℕ → Option Rule
-force_rule r i v0 v1 =
-    if int_lt (pos (traction_work r i v1)) (work (step_at r i) v0 v1) then Some Traction
-    else if int_lt (work (step_at r i) v0 v1) (neg_ℤ (pos (brake_work r i v0))) then Some Brake else None
+force_rule r i v0 v1 = first_broken (force_tests r i v0 v1)
 
 -- the first rule that step i breaks from v0 to v1
 abbrev pub step_rule : Rules → ℕ → ℕ → ℕ → Option Rule
-step_rule r i v0 v1 =
-    if nat_lt (slice_index r.limits i) v0 || nat_lt (slice_index r.limits i) v1 then Some Limit
-    else if nat_lt r.top v0 || nat_lt r.top v1 then Some Top
-    else force_rule r i v0 v1
+step_rule r i v0 v1 = first_broken (step_tests r i v0 v1)
 
 -- the rule that a list of speeds breaks at point k, and the point
 abbrev pub point_fault : Rules → List ℕ → ℕ → Option (Rule × ℕ)

@@ -5,7 +5,7 @@ ghost use Rattle.std.specs.Str.Lines.{lines};
 ghost use Rattle.line_file.specs.Shape.{IsLine, IsService};
 ghost use Rattle.train_file.specs.Shape.{IsTrain};
 ghost use Rattle.route_file.specs.Route.{is_step_line, rows_made, rules_of_text, CountsRows};
-ghost use Rattle.joined_rules.specs.Joined.{IsSetup, Joins, Refuses};
+ghost use Rattle.joined_rules.specs.Joined.{IsSetup, Joins, Refuses, CountsRows as CountsJoined};
 
 use crate::rules::Rules;
 use joined_rules::{RulesFault, Setup, join};
@@ -50,7 +50,8 @@ impl Rules {
     /// 4,000 steps; `StopsTooClose` for the first call that is a stop next after another stop, or next after the start where the train
     /// stands there; `DragTooGreat` for the first step with too great a drag. `NoMemory` may come at any place.
     ///
-    /// On `Ok` it counts as many steps as the rules have.
+    /// It counts one step for each row that it makes: on `Ok` as many as the rules have, after `DragTooGreat(i)` i + 1, after any other
+    /// refusal none, and where memory runs out at most as many as the rules have.
     pub fn make<L: Ledger>(
         alloc: Global,
         line: &Line,
@@ -66,6 +67,7 @@ impl Rules {
         ensures joined { IfOk result (Joins line.now train.now service.now setup.now) }
         ensures refused { IfErr result (Refuses line.now train.now service.now setup.now) }
         ensures counted { IfOk result (λ rules. steps.new ≡ steps.old + length rules.steps) }
+        ensures made { CountsJoined result line.now service.now setup.now steps.old steps.new }
     {
         let parts = join(alloc, line, train, service, setup, steps)?;
         Ok(Rules::from_parts(parts))

@@ -32,6 +32,9 @@ impl Rules {
     }
 
     /// The cost of step i's work from v0 to v1, or the first of its rules that these speeds break. `row` is the step's row.
+    ///
+    /// The rules stand in one list, `step_tests`. They are coded by hand in its order, since each step of each list of speeds comes
+    /// here: both speeds take one comparison with the limit and one with the top, and the work is computed once.
     pub(crate) fn step_cost<C: StepCost>(
         &self,
         i: usize,
@@ -57,8 +60,8 @@ impl Rules {
 
     /// The cost of step i's work, or the first rule on forces that it breaks from v0 to v1.
     ///
-    /// Only positive work asks for traction, and only negative work for brakes. Each arm knows the sign of its work, so that
-    /// the cost of traction takes no second test.
+    /// Of the two tests in `force_tests` one is made: only positive work asks for traction, and only negative work for brakes. Each arm
+    /// knows the sign of its work, so that the cost of traction takes no second test.
     fn force_cost<C: StepCost>(
         &self,
         i: usize,
@@ -98,7 +101,7 @@ impl Rules {
         self.step_cost(i, self.row(i), v0, v1, &Traction).is_ok()
     }
 
-    /// Whether the traction takes the train over step i from v0 to v1, whatever the limit.
+    /// Whether the traction takes the train over step i from v0 to v1, whatever the limit. Searches for speeds ask for this rule alone.
     pub fn traction_reaches(&self, i: usize, v0: u16, v1: u16) -> bool
         requires step { i < length self.now.steps }
         requires entry { v0 ≤ self.now.top }
@@ -109,7 +112,7 @@ impl Rules {
         row.is_pulled(row.short_work(v0, v1), self.parts.traction.at(v1))
     }
 
-    /// Whether the brakes hold the train over step i from v0 to v1, whatever the limit.
+    /// Whether the brakes hold the train over step i from v0 to v1, whatever the limit. Searches for speeds ask for this rule alone.
     pub fn brakes_hold(&self, i: usize, v0: u16, v1: u16) -> bool
         requires step { i < length self.now.steps }
         requires entry { v0 ≤ self.now.top }

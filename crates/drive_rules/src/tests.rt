@@ -5,6 +5,7 @@ ghost use Rattle.rule_parts.specs.Shaped.{rules_of};
 
 use crate::drive::Drive;
 use crate::judge::{Judged, Rule};
+use crate::making::read_route;
 use crate::rules::Rules;
 use force_table::{ForceTable, SpeedTable};
 use rail_base::Traction;
@@ -80,29 +81,8 @@ fn example(alloc: Global, traction: u32, latest: i64) -> Option<Rules>
 #[test]
 fn judges_lists_of_speeds(rt: HostRuntime) {
     // traction, latest time without the dwell, speeds, judgement
-    let kept = |cost| Judged::Kept { cost };
-    let cases: [(u32, i64, &[u16], Judged); 9] = [
-        (51_000, 50_000, &[0, 800, 0], kept(6_600_000_000_000)),
-        (51_000, 50_000, &[0, 800], Judged::Broken(Rule::Length, 0)),
-        (
-            51_000,
-            50_000,
-            &[0, 0, 0],
-            Judged::Broken(Rule::Standing, 1),
-        ),
-        (
-            51_000,
-            50_000,
-            &[0, 1001, 0],
-            Judged::Broken(Rule::Limit, 0),
-        ),
+    let cases: [(u32, i64, &[u16], Judged); 4] = [
         (51_000, 50_000, &[0, 799, 0], Judged::Broken(Rule::Late, 2)),
-        (
-            50_999,
-            50_000,
-            &[0, 1000, 0],
-            Judged::Broken(Rule::Traction, 0),
-        ),
         (
             51_000,
             50_000,
@@ -128,6 +108,69 @@ fn judges_lists_of_speeds(rt: HostRuntime) {
         };
         assert_eq!(rt; rules.judge(speeds, &Traction), judged);
     }
+}
+
+/// The route of two level steps with the traction that just suffices, and the same with 1 N less.
+const ROUTE: &[u8] =
+    b"route 1\ntrain 1000 1000 1000 0 0\ntop 1000\ntraction 51000\nbrake 100000\nlatest 50\nstep 100 0 1000\nstep 100 0 1000\nend\n";
+
+const WEAK_ROUTE: &[u8] =
+    b"route 1\ntrain 1000 1000 1000 0 0\ntop 1000\ntraction 50999\nbrake 100000\nlatest 50\nstep 100 0 1000\nstep 100 0 1000\nend\n";
+
+/// Reads a route with a counter of its own.
+fn read_with<L: Ledger>(alloc: Global, text: &[u8], blank: Blank) -> Option<Rules>
+    requires name { blank.name ≡ L.name }
+    requires parts { blank.parts ≡ L.parts }
+    requires some { 0 < L.parts }
+{
+    let mut steps = Steps::<L>::new(blank);
+    read_route(alloc, text, &mut steps).ok()
+}
+
+/// What the rules of a route, and a copy of them, say of speeds, where both say the same.
+fn judged_alike(alloc: Global, text: &[u8], speeds: &[u16]) -> Option<Judged> {
+    let rules = read_with::<Brand>(alloc, text, Blank::new(1))?;
+    let judged = rules.judge(speeds, &Traction);
+    let copy = rules.copy(alloc).ok()?;
+    if copy.judge(speeds, &Traction) == judged {
+        Some(judged)
+    } else {
+        None
+    }
+}
+
+#[test]
+fn judges_the_route_of_two_steps(rt: HostRuntime) {
+    for case in 0..6 {
+        let (text, middle, judged) = match case {
+            0 => (
+                ROUTE,
+                800,
+                Judged::Kept {
+                    cost: 6_600_000_000_000,
+                },
+            ),
+            1 => (ROUTE, 0, Judged::Broken(Rule::Standing, 1)),
+            2 => (ROUTE, 1001, Judged::Broken(Rule::Limit, 0)),
+            3 => (ROUTE, 799, Judged::Broken(Rule::Late, 2)),
+            4 => (WEAK_ROUTE, 1000, Judged::Broken(Rule::Traction, 0)),
+            _ => (
+                ROUTE,
+                1000,
+                Judged::Kept {
+                    cost: 10_200_000_000_000,
+                },
+            ),
+        };
+        assert_eq!(rt;
+            judged_alike(rt.alloc(), text, &[0, middle, 0]),
+            Some(judged)
+        );
+    }
+    assert_eq!(rt;
+        judged_alike(rt.alloc(), ROUTE, &[0, 800]),
+        Some(Judged::Broken(Rule::Length, 0))
+    );
 }
 
 /// Whether the readers give the parts of the example.

@@ -1,5 +1,5 @@
 -- The rules that a line, a train, a service and a setup give together.
-use Rattle.std.specs.Prelude.{ℕ, ◌+◌, ◌-◌, ◌*◌, ◌<◌, ◌≤◌, ◌≡◌, ◌≢◌, ◌==◌, ◌||◌, ◌⊎◌, ◌++◌, ℤ, pos, ◌-ℤ◌, ◌≤ℤ◌, Bool, true, List, Option, Some, None, is_some, IfSome, if◌then◌else◌, length, map, slice_index, slice_index_or}
+use Rattle.std.specs.Prelude.{ℕ, ◌+◌, ◌-◌, ◌*◌, ◌<◌, ◌≤◌, ◌≡◌, ◌≢◌, ◌==◌, ◌||◌, ◌⊎◌, ◌++◌, ℤ, pos, ◌-ℤ◌, ◌≤ℤ◌, Bool, true, List, Option, Some, None, Result, Ok, Err, is_some, IfSome, if◌then◌else◌, length, map, slice_index, slice_index_or}
 use Rattle.rail_specs.specs.declared.StepNumbers.{StepNumbers}
 use Rattle.rail_specs.specs.declared.Timing.{Timing}
 use Rattle.rail_specs.specs.Grid.{IsGrid}
@@ -64,7 +64,9 @@ AreGridPlaces line service setup places = IsGrid (marks_of line service) setup.s
 
 -- the step from s to e lies in a section, and v is the section's value
 abbrev pub LiesIn : List Section → ℕ → ℕ → ℤ → Type 0
-LiesIn sections s e v = (k : ℕ) × (k < length sections) × ((section_at sections k).from ≤ s) × (e ≤ (section_at sections k).to) × (v ≡ (section_at sections k).value)
+LiesIn sections s e v =
+    (k : ℕ) × (k < length sections) × ((section_at sections k).from ≤ s) × (e ≤ (section_at sections k).to)
+    × (v ≡ (section_at sections k).value)
 
 -- a stretch from f to t meets a step from s to e: they share more than an end
 abbrev pub Meets : ℕ → ℕ → ℕ → ℕ → Type 0
@@ -72,8 +74,10 @@ Meets f t s e = (f < e) × (s < t)
 
 -- v is the least limit of the sections and of the stretches that meet the step from s to e
 pub record IsLeastLimit (sections : List Section) (stretches : List Stretch) (s e v : ℕ) : Type 0 where
-  pub of_sections : (k : ℕ) → k < length sections → Meets (section_at sections k).from (section_at sections k).to s e → pos v ≤ℤ (section_at sections k).value
-  pub of_stretches : (k : ℕ) → k < length stretches → Meets (stretch_at stretches k).from (stretch_at stretches k).to s e → v ≤ (stretch_at stretches k).limit
+  pub of_sections : (k : ℕ) → k < length sections → Meets (section_at sections k).from (section_at sections k).to s e →
+      pos v ≤ℤ (section_at sections k).value
+  pub of_stretches : (k : ℕ) → k < length stretches → Meets (stretch_at stretches k).from (stretch_at stretches k).to s e →
+      v ≤ (stretch_at stretches k).limit
   pub reached :
       ((k : ℕ) × (k < length sections) × Meets (section_at sections k).from (section_at sections k).to s e × (pos v ≡ (section_at sections k).value))
       ⊎ ((k : ℕ) × (k < length stretches) × Meets (stretch_at stretches k).from (stretch_at stretches k).to s e × (v ≡ (stretch_at stretches k).limit))
@@ -122,7 +126,8 @@ IsLatest (Some s) clock t = t ≡ pos (1000 * s) -ℤ pos (1000 * clock)
 -- a timing point stands at a call after the start that has a latest time
 abbrev pub IsTimingOf : List Call → ℕ → ℕ → List ℕ → Timing → Type 0
 IsTimingOf calls start clock places t =
-    (j : ℕ) × (j < length calls) × (start < (call_at calls j).place) × (slice_index places t.point ≡ (call_at calls j).place) × IsLatest (call_at calls j).latest clock t.latest
+    (j : ℕ) × (j < length calls) × (start < (call_at calls j).place) × (slice_index places t.point ≡ (call_at calls j).place)
+    × IsLatest (call_at calls j).latest clock t.latest
 
 -- the timing points in order, one for each call after the start that has a latest time
 pub record AreTimings (calls : List Call) (start clock : ℕ) (places : List ℕ) (timings : List Timing) : Type 0 where
@@ -141,9 +146,11 @@ pub record IsJoined (line : Line) (train : Train) (service : Service) (setup : S
   pub traction_is : r.traction ≡ train.traction
   pub brake_is : r.brake ≡ train.brake
   pub steps_are : length r.places ≡ length r.steps + 1
-  pub each_step : (i : ℕ) → i < length r.steps → IsStepOf train line.gradients (slice_index r.places i) (slice_index r.places (i + 1)) (step_at r i)
+  pub each_step : (i : ℕ) → i < length r.steps →
+      IsStepOf train line.gradients (slice_index r.places i) (slice_index r.places (i + 1)) (step_at r i)
   pub limits_are : length r.limits ≡ length r.steps
-  pub each_limit : (i : ℕ) → i < length r.steps → IsLeastLimit line.limits setup.stretches (slice_index r.places i) (slice_index r.places (i + 1)) (slice_index r.limits i)
+  pub each_limit : (i : ℕ) → i < length r.steps →
+      IsLeastLimit line.limits setup.stretches (slice_index r.places i) (slice_index r.places (i + 1)) (slice_index r.limits i)
   pub stops_are : length r.stops ≡ length r.places
   pub dwells_are : length r.dwells ≡ length r.places
   pub each_point : (k : ℕ) → k < length r.places → IsPointOf service.calls r.places k (is_stop r k) (slice_index r.dwells k)
@@ -189,9 +196,11 @@ pub record IsAccepted (line : Line) (service : Service) (setup : Setup) (places 
 abbrev pub RefusesPlaces : Line → Service → Setup → RulesFault → Type 0
 RefusesPlaces line service setup (fault.Outside n) = (1 ≤ n) × IsFirst (IsOutside line service.calls) (length service.calls) (n - 1)
 RefusesPlaces line service setup fault.TooManySteps =
-    ForNone (IsOutside line service.calls) (length service.calls) × IsLongGrid (marks_of line service) setup.step setup.place (last_place service.calls)
+    ForNone (IsOutside line service.calls) (length service.calls)
+    × IsLongGrid (marks_of line service) setup.step setup.place (last_place service.calls)
 RefusesPlaces line service setup (fault.StopsTooClose n) =
-    ForNone (IsOutside line service.calls) (length service.calls) × (places : List ℕ) × IsShortGrid (marks_of line service) setup.step setup.place (last_place service.calls) places
+    ForNone (IsOutside line service.calls) (length service.calls) × (places : List ℕ)
+    × IsShortGrid (marks_of line service) setup.step setup.place (last_place service.calls) places
     × (1 ≤ n) × IsFirst (IsTooClose service.calls setup.speed places) (length service.calls) (n - 1)
 RefusesPlaces line service setup (fault.DragTooGreat i) = ⊥
 RefusesPlaces line service setup fault.NoMemory = Unit {0}
@@ -204,6 +213,17 @@ Refuses line train service setup (fault.Outside n) = RefusesPlaces line service 
 Refuses line train service setup fault.TooManySteps = RefusesPlaces line service setup fault.TooManySteps
 Refuses line train service setup (fault.StopsTooClose n) = RefusesPlaces line service setup (fault.StopsTooClose n)
 Refuses line train service setup fault.NoMemory = Unit {0}
+
+-- the counter shows the rows that were made: one for each step on `Ok`, none where the calls or the places are refused, and up to the row
+-- that is refused, that row too; where memory runs out, none, or no more than the steps
+abbrev pub CountsRows : {A : Type 0} → Result A RulesFault → Line → Service → Setup → ℕ → ℕ → Type 0
+CountsRows (Ok x) line service setup old new = (places : List ℕ) × IsAccepted line service setup places × (new + 1 ≡ old + length places)
+CountsRows (Err (fault.DragTooGreat i)) line service setup old new = new ≡ old + (i + 1)
+CountsRows (Err (fault.Outside n)) line service setup old new = new ≡ old
+CountsRows (Err fault.TooManySteps) line service setup old new = new ≡ old
+CountsRows (Err (fault.StopsTooClose n)) line service setup old new = new ≡ old
+CountsRows (Err fault.NoMemory) line service setup old new =
+    (old ≤ new) × ((new ≡ old) ⊎ ((places : List ℕ) × IsAccepted line service setup places × (new + 1 ≤ old + length places)))
 
 -- the joined rules, where nothing refuses them
 pub record Joins (line : Line) (train : Train) (service : Service) (setup : Setup) (r : Rules) : Type 0 where

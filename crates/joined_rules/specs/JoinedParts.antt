@@ -1,5 +1,5 @@
 -- What the parts of the joined rules are, as they are made one after another.
-use Rattle.std.specs.Prelude.{ℕ, ◌+◌, ◌-◌, ◌<◌, ◌≤◌, ◌≡◌, ◌⊎◌, ℤ, pos, Bool, true, false, List, length, slice_index, slice_index_or}
+use Rattle.std.specs.Prelude.{ℕ, ◌+◌, ◌-◌, ◌<◌, ◌≤◌, ◌≡◌, ◌⊎◌, ℤ, pos, Bool, true, false, Result, Ok, Err, List, Contains, length, slice_index, slice_index_or}
 use Rattle.std.specs.Int.RustNames.{unsigned_abs}
 use Rattle.rail_specs.specs.declared.StepNumbers.{StepNumbers}
 use Rattle.rail_specs.specs.Rules.{no_step}
@@ -39,27 +39,36 @@ pub record AreCut (sections : List Section) (places : List ℕ) : Type 0 where
   pub rising : Rising places
   pub begun : first_from sections ≤ slice_index places 0
   pub ended : (i : ℕ) → i + 1 < length places → slice_index places i < last_to sections
-  pub whole : (k i : ℕ) → k < length sections → i + 1 < length places → slice_index places i < (section_at sections k).to → slice_index places (i + 1) ≤ (section_at sections k).to
+  pub whole : (k i : ℕ) → k < length sections → i + 1 < length places → slice_index places i < (section_at sections k).to →
+      slice_index places (i + 1) ≤ (section_at sections k).to
 
 -- for each step the value of the section in which it lies
 pub record AreValues (sections : List Section) (places : List ℕ) (values : List ℤ) : Type 0 where
   pub count : length values + 1 ≡ length places
-  pub each : (i : ℕ) → i < length values → LiesIn sections (slice_index places i) (slice_index places (i + 1)) (slice_index_or values i (pos 0))
+  pub each : (i : ℕ) → i < length values →
+      LiesIn sections (slice_index places i) (slice_index places (i + 1)) (slice_index_or values i (pos 0))
 
 -- v is the least of a limit and of the limits of the stretches that meet the step from s to e
 pub record IsLowered (stretches : List Stretch) (s e limit v : ℕ) : Type 0 where
   pub below : v ≤ limit
-  pub each : (k : ℕ) → k < length stretches → Meets (stretch_at stretches k).from (stretch_at stretches k).to s e → v ≤ (stretch_at stretches k).limit
-  pub reached : (v ≡ limit) ⊎ ((k : ℕ) × (k < length stretches) × Meets (stretch_at stretches k).from (stretch_at stretches k).to s e × (v ≡ (stretch_at stretches k).limit))
+  pub each : (k : ℕ) → k < length stretches → Meets (stretch_at stretches k).from (stretch_at stretches k).to s e →
+      v ≤ (stretch_at stretches k).limit
+  pub reached : (v ≡ limit)
+      ⊎ ((k : ℕ) × (k < length stretches) × Meets (stretch_at stretches k).from (stretch_at stretches k).to s e × (v ≡ (stretch_at stretches k).limit))
 
 -- for each step the limit of its section, lowered by the stretches that meet the step
 pub record AreLowered (stretches : List Stretch) (places : List ℕ) (values : List ℤ) (limits : List ℕ) : Type 0 where
   pub count : length limits ≡ length values
-  pub each : (i : ℕ) → i < length limits → (b : ℕ) × (pos b ≡ slice_index_or values i (pos 0)) × IsLowered stretches (slice_index places i) (slice_index places (i + 1)) b (slice_index limits i)
+  pub each : (i : ℕ) → i < length limits → (b : ℕ) × (pos b ≡ slice_index_or values i (pos 0))
+      × IsLowered stretches (slice_index places i) (slice_index places (i + 1)) b (slice_index limits i)
 
 -- calls lie at rising places
 abbrev pub CallsRise : List Call → Type 0
 CallsRise calls = (k : ℕ) → k + 1 < length calls → (call_at calls k).place < (call_at calls (k + 1)).place
+
+-- each call behind the first place stands at one of the places
+abbrev pub HaveCallPlaces : List ℕ → List Call → Type 0
+HaveCallPlaces places calls = (j : ℕ) → j < length calls → slice_index places 0 < (call_at calls j).place → Contains places (call_at calls j).place
 
 -- for each point which call stands there
 pub record AreCallsAt (calls : List Call) (places visits : List ℕ) : Type 0 where
@@ -77,7 +86,8 @@ NoneClose stops start n = (k : ℕ) → k < n → IsCloseStop stops start k → 
 -- for each step its numbers, none with too great a drag
 pub record AreRows (train : Train) (gradients : List ℤ) (places : List ℕ) (rows : List StepNumbers) : Type 0 where
   pub count : length rows ≡ length gradients
-  pub each : (i : ℕ) → i < length rows → slice_index_or rows i no_step ≡ step_of_train (numbers_of train) (slice_index places (i + 1) - slice_index places i) (slice_index_or gradients i (pos 0))
+  pub each : (i : ℕ) → i < length rows →
+      slice_index_or rows i no_step ≡ step_of_train (numbers_of train) (slice_index places (i + 1) - slice_index places i) (slice_index_or gradients i (pos 0))
   pub light : (i : ℕ) → i < length rows → IsTooGreat train places i → ⊥
 
 -- the refusal is for the first step with too great a drag; memory may run out
@@ -87,6 +97,16 @@ RefusesRows train places count fault.NoMemory = Unit {0}
 RefusesRows train places count (fault.Outside n) = ⊥
 RefusesRows train places count fault.TooManySteps = ⊥
 RefusesRows train places count (fault.StopsTooClose n) = ⊥
+
+-- the counter shows the rows that were made: each of so many, or those up to the one that is refused, that one too; where memory runs
+-- out, no more than all
+abbrev pub CountsSteps : {A : Type 0} → Result A RulesFault → ℕ → ℕ → ℕ → Type 0
+CountsSteps (Ok x) count old new = new ≡ old + count
+CountsSteps (Err (fault.DragTooGreat i)) count old new = new ≡ old + (i + 1)
+CountsSteps (Err fault.NoMemory) count old new = (old ≤ new) × (new ≤ old + count)
+CountsSteps (Err (fault.Outside n)) count old new = ⊥
+CountsSteps (Err fault.TooManySteps) count old new = ⊥
+CountsSteps (Err (fault.StopsTooClose n)) count old new = ⊥
 
 -- the refusal of a grid that is too long; memory may run out
 abbrev pub RefusesGrid : Line → Service → Setup → RulesFault → Type 0
@@ -119,10 +139,12 @@ pub record IsLayout (line : Line) (service : Service) (setup : Setup) (l : Layou
 -- the rows and the limits of the steps between places
 pub record IsCourse (line : Line) (train : Train) (setup : Setup) (places : List ℕ) (c : Course) : Type 0 where
   pub count : length c.rows.items + 1 ≡ length places
-  pub each_step : (i : ℕ) → i < length c.rows.items → IsStepOf train line.gradients (slice_index places i) (slice_index places (i + 1)) (slice_index_or c.rows.items i no_step)
+  pub each_step : (i : ℕ) → i < length c.rows.items →
+      IsStepOf train line.gradients (slice_index places i) (slice_index places (i + 1)) (slice_index_or c.rows.items i no_step)
   pub light : (i : ℕ) → i < length c.rows.items → IsTooGreat train places i → ⊥
   pub limits_count : length c.limits.items ≡ length c.rows.items
-  pub each_limit : (i : ℕ) → i < length c.limits.items → IsLeastLimit line.limits setup.stretches (slice_index places i) (slice_index places (i + 1)) (slice_index c.limits.items i)
+  pub each_limit : (i : ℕ) → i < length c.limits.items →
+      IsLeastLimit line.limits setup.stretches (slice_index places i) (slice_index places (i + 1)) (slice_index c.limits.items i)
 
 -- the dwells of the points, and the timing points
 pub record AreTimes (calls : List Call) (clock : ℕ) (places visits : List ℕ) (t : Times) : Type 0 where

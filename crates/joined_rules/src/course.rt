@@ -3,7 +3,7 @@
 ghost use Rattle.std.specs.Prelude.{◌≡◌, ◌+◌, ◌-◌, ◌<◌, ◌≤◌, ℕ, length, slice_index, IfOk, IfErr};
 ghost use Rattle.line_file.specs.Shape.{IsLine};
 ghost use Rattle.train_file.specs.Shape.{IsTrain};
-ghost use Rattle.joined_rules.specs.JoinedParts.{AreCut, RefusesRows, IsCourse};
+ghost use Rattle.joined_rules.specs.JoinedParts.{AreCut, CountsSteps, RefusesRows, IsCourse};
 
 use crate::fault::RulesFault;
 use crate::rows::rows_of_steps;
@@ -24,7 +24,8 @@ pub(crate) struct Course {
     pub limits: Vec<u16>,
 }
 
-/// The steps between places, or the first with too great a drag. It counts a step for each row that it makes.
+/// The steps between places, or the first with too great a drag. It counts a step for each row that it makes, the
+/// refused one too.
 pub(crate) fn course_over<L: Ledger>(
     alloc: Global,
     line: &Line,
@@ -42,7 +43,7 @@ pub(crate) fn course_over<L: Ledger>(
     requires short { (i : ℕ) → i + 1 < length places.now → slice_index places.now (i + 1) ≤ slice_index places.now i + 1000 }
     ensures made { IfOk result (IsCourse line.now train.now setup.now places.now) }
     ensures refused { IfErr result (RefusesRows train.now places.now (length places.now - 1)) }
-    ensures counted { IfOk result (λ c. steps.new ≡ steps.old + length c.rows.items) }
+    ensures counted { CountsSteps result (length places.now - 1) steps.old steps.new }
 {
     let gradients = values_of_steps(alloc, line.gradients.items(), places)?;
     let rows = rows_of_steps(alloc, train, &gradients, places, steps)?;

@@ -58,10 +58,7 @@ fn places_of_grid(
     let calls = service.calls.items();
     let end = calls[calls.len() - 1].place;
     match Grid::make(alloc, &marks, setup.step, setup.place, end) {
-        Ok(grid) => {
-            let places = Vec::from_slice(alloc, grid.places())?;
-            Ok(places)
-        }
+        Ok(grid) => Ok(grid.into_places()),
         Err(GridFault::TooManySteps) => Err(RulesFault::TooManySteps),
         Err(GridFault::NoMemory) => Err(RulesFault::NoMemory),
         Err(GridFault::BadSpan) => unreachable!(),

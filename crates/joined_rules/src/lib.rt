@@ -4,7 +4,7 @@
 ghost use Rattle.std.specs.Prelude.{◌≡◌, ◌+◌, length, IfOk, IfErr};
 ghost use Rattle.line_file.specs.Shape.{IsLine, IsService};
 ghost use Rattle.train_file.specs.Shape.{IsTrain};
-ghost use Rattle.joined_rules.specs.Joined.{IsSetup, Joins, Refuses};
+ghost use Rattle.joined_rules.specs.Joined.{CountsRows, IsSetup, Joins, Refuses};
 ghost use Rattle.rule_parts.specs.Shaped.{rules_of, IsShaped};
 
 mod course;
@@ -41,7 +41,8 @@ use train_file::Train;
 /// 4,000 steps; `StopsTooClose` for the first call that is a stop next after another stop, or next after the start where the train
 /// stands there; `DragTooGreat` for the first step with too great a drag. `NoMemory` may come at any place.
 ///
-/// On `Ok` it counts as many steps as the rules have.
+/// It counts one step for each row that it makes: on `Ok` as many as the rules have, after `DragTooGreat(i)` i + 1, after any other
+/// refusal none, and where memory runs out at most as many as the rules have.
 pub fn join<L: Ledger>(
     alloc: Global,
     line: &Line,
@@ -58,6 +59,7 @@ pub fn join<L: Ledger>(
     ensures shaped { IfOk result (λ parts. IsShaped (rules_of parts)) }
     ensures refused { IfErr result (Refuses line.now train.now service.now setup.now) }
     ensures counted { IfOk result (λ parts. steps.new ≡ steps.old + length parts.rows.items) }
+    ensures made { CountsRows result line.now service.now setup.now steps.old steps.new }
 {
     let layout = lay_out(alloc, line, service, setup)?;
     let course = course_over(alloc, line, train, setup, &layout.places, steps)?;

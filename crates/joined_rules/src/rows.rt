@@ -3,7 +3,7 @@
 ghost use Rattle.std.specs.Prelude.{◌≡◌, ◌+◌, ◌<◌, ◌≤◌, ℕ, ℤ, pos, negsuc, ◌≤ℤ◌, length, slice_index, slice_index_or, ◌++◌, ◌∷◌, [], OnOk, IfOk, IfErr};
 ghost use Rattle.rail_specs.specs.Step.{step_of_train, IsInRange};
 ghost use Rattle.train_file.specs.Shape.{numbers_of, IsTrain};
-ghost use Rattle.joined_rules.specs.JoinedParts.{AreRows, RefusesRows};
+ghost use Rattle.joined_rules.specs.JoinedParts.{AreRows, CountsSteps, RefusesRows};
 
 use crate::fault::RulesFault;
 use rail_specs::StepNumbers;
@@ -34,7 +34,7 @@ fn append(rows: &mut Vec<StepRow>, row: StepRow) -> Result<(), AllocError>
 }
 
 /// The rows of the steps between places, which have these gradients, or the first step with too great a drag. It counts a step for
-/// each row that it makes.
+/// each row that it makes, the refused one too.
 pub(crate) fn rows_of_steps<L: Ledger>(
     alloc: Global,
     train: &Train,
@@ -51,7 +51,7 @@ pub(crate) fn rows_of_steps<L: Ledger>(
     requires up { (i : ℕ) → i < length gradients.now → slice_index_or gradients.now i (pos 0) ≤ℤ pos 1000 }
     ensures rows { IfOk result (λ rows. AreRows train.now gradients.now places.now rows.items) }
     ensures refused { IfErr result (RefusesRows train.now places.now (length gradients.now)) }
-    ensures counted { IfOk result (λ _. steps.new ≡ steps.old + length gradients.now) }
+    ensures made { CountsSteps result (length gradients.now) steps.old steps.new }
 {
     let mut rows = Vec::new(alloc);
     for i in 0..gradients.len() {

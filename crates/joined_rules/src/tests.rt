@@ -36,8 +36,8 @@ fn train_with(alloc: Global, c: u32) -> Option<Train>
 {
     let traction = ForceTable::make(alloc, &[(0, 51_000), (1000, 51_000)]).ok()?;
     let brake = ForceTable::make(alloc, &[(0, 100_000), (1000, 100_000)]).ok()?;
-    let _ = traction.top();
-    let _ = brake.top();
+    traction.top();
+    brake.top();
     Some(Train {
         mass: 1000,
         inertia: 1000,

@@ -1,9 +1,9 @@
 //! The dwells and the timing points of joined rules.
 
-ghost use Rattle.std.specs.Prelude.{◌<◌, ◌≤◌, ℕ, Contains, length, slice_index, IfOk};
-ghost use Rattle.line_file.specs.Shape.{IsService, call_at};
+ghost use Rattle.std.specs.Prelude.{◌≤◌, length, slice_index, IfOk};
+ghost use Rattle.line_file.specs.Shape.{IsService};
 ghost use Rattle.joined_rules.specs.Joined.{first_place};
-ghost use Rattle.joined_rules.specs.JoinedParts.{AreCallsAt, Rising, AreTimes};
+ghost use Rattle.joined_rules.specs.JoinedParts.{AreCallsAt, HaveCallPlaces, Rising, AreTimes};
 
 use crate::points::dwells_of_points;
 use crate::timings::timings_of_calls;
@@ -35,7 +35,7 @@ pub(crate) fn times_of(
     requires some { 1 ≤ length places.now }
     requires few { length places.now ≤ 4001 }
     requires start { first_place service.now.calls ≤ slice_index places.now 0 }
-    requires there { (j : ℕ) → j < length service.now.calls → slice_index places.now 0 < (call_at service.now.calls j).place → Contains places.now (call_at service.now.calls j).place }
+    requires there { HaveCallPlaces places.now service.now.calls }
     ensures { IfOk result (AreTimes service.now.calls clock places.now visits.now) }
 {
     let calls = service.calls.items();

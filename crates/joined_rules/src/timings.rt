@@ -2,10 +2,10 @@
 
 ghost use Rattle.std.specs.Prelude.{◌≡◌, ◌-◌, ◌*◌, ◌<◌, ◌≤◌, ℕ, pos, ◌-ℤ◌, Contains, length, slice_index, IfOk};
 ghost use Rattle.std.specs.Int.RustNames.{unsigned_abs};
-ghost use Rattle.line_file.specs.Shape.{call_at, AreCalls};
+ghost use Rattle.line_file.specs.Shape.{AreCalls};
 ghost use Rattle.line_file.specs.ServiceText.{latest_count};
 ghost use Rattle.joined_rules.specs.Joined.{first_place, AreTimings};
-ghost use Rattle.joined_rules.specs.JoinedParts.{Rising};
+ghost use Rattle.joined_rules.specs.JoinedParts.{HaveCallPlaces, Rising};
 
 use line_file::Call;
 use rail_specs::Timing;
@@ -49,7 +49,7 @@ pub(crate) fn timings_of_calls(
     requires some { 1 ≤ length places.now }
     requires few { length places.now ≤ 4001 }
     requires start { first_place calls.now ≤ slice_index places.now 0 }
-    requires there { (j : ℕ) → j < length calls.now → slice_index places.now 0 < (call_at calls.now j).place → Contains places.now (call_at calls.now j).place }
+    requires there { HaveCallPlaces places.now calls.now }
     requires clock { clock ≤ 172800 }
     ensures timings { IfOk result (λ timings. AreTimings calls.now (slice_index places.now 0) clock places.now timings.items) }
     ensures few { IfOk result (λ timings. length timings.items ≤ latest_count calls.now) }

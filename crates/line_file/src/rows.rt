@@ -4,7 +4,7 @@ ghost use Rattle.std.specs.Prelude.{◌≡◌, ℕ, IfOk};
 ghost use Rattle.csv.specs.Records.{fields_of};
 ghost use Rattle.line_file.specs.Rows.{TakesRow, field_of, has_fields, is_blank, is_field, rows_of, without_mark};
 
-use csv::{ByteRecord, Reader, ReaderBuilder};
+use csv::{ByteRecord, ErrorKind, Reader, ReaderBuilder};
 use rail_base::trim_spaces;
 use std::alloc::{AllocError, Global};
 use std::marker::Model;
@@ -97,7 +97,8 @@ impl<'a> Rows<'a> {
 
     /// Takes the next row, and answers whether there was one. Or want of memory.
     ///
-    /// Over a text in memory `csv` refuses no record of any number of fields, so the memory alone can run out.
+    /// `csv` refuses no record of any number of fields, which is proved at the last arm. That a slice is read to its end isn't said by any
+    /// clause of it, so a fault of reading stands beside want of memory.
     pub(crate) fn next(&mut self, row: &mut ByteRecord) -> Result<bool, AllocError>
         ensures { IfOk result (λ found. TakesRow found (fields_of row.new) self.old self.new) }
     {
@@ -115,10 +116,13 @@ impl<'a> Rows<'a> {
                     self.done = true;
                     return Ok(false);
                 }
-                Err(_) => {
-                    self.done = true;
-                    return Err(AllocError);
-                }
+                Err(error) => match error.kind() {
+                    ErrorKind::OutOfMemory | ErrorKind::Io(_) => {
+                        self.done = true;
+                        return Err(AllocError);
+                    }
+                    _ => unreachable!(),
+                },
             }
         }
     }

@@ -42,8 +42,8 @@ form_then_range n (Some x) in_range = if in_range x then None else Some (Range n
 -- mass, inertia mass and the three coefficients of the resistance are in range
 abbrev pub is_train : List ℤ → Bool
 is_train ns =
-    is_within (pos 1) (pos 100000) (number ns 0) && is_within (pos 1) (pos 120000) (number ns 1) && is_within (pos 0) (pos 10000000) (number ns 2)
-    && is_within (pos 0) (pos 10000000) (number ns 3) && is_within (pos 0) (pos 10000000) (number ns 4)
+    is_within (pos 1) (pos 100000) (number ns 0) && is_within (pos 1) (pos 120000) (number ns 1)
+    && is_within (pos 0) (pos 10000000) (number ns 2) && is_within (pos 0) (pos 10000000) (number ns 3) && is_within (pos 0) (pos 10000000) (number ns 4)
 
 -- the one number of a line is in range
 abbrev pub is_one : ℕ → ℕ → List ℤ → Bool
@@ -51,7 +51,8 @@ is_one low high ns = is_within (pos low) (pos high) (number ns 0)
 
 -- the length, gradient and limit of a step are in range
 abbrev pub is_step : List ℤ → Bool
-is_step ns = is_within (pos 1) (pos 1000) (number ns 0) && is_within (negsuc 999) (pos 1000) (number ns 1) && is_within (pos 1) (pos 12000) (number ns 2)
+is_step ns =
+    is_within (pos 1) (pos 1000) (number ns 0) && is_within (negsuc 999) (pos 1000) (number ns 1) && is_within (pos 1) (pos 12000) (number ns 2)
 
 -- a step's numbers are in range, and the drag over the step is below the kinetic energy of a train with this inertia mass and coefficient c
 abbrev pub is_light_step : ℕ → ℕ → List ℤ → Bool
@@ -127,11 +128,13 @@ row_count n line = if nat_lt 4006 n then 0 else (if is_step_of (numbers_after (c
 abbrev pub row_counts : ℕ → ℕ → ℕ → List (List ℕ) → ℕ
 row_counts inertia c n [] = 0
 row_counts inertia c n (line ∷ ls) =
-    if is_step_line line then row_count n line + (if is_none (step_fault inertia c n line) then row_counts inertia c (n + 1) ls else 0) else 0
+    if is_step_line line then row_count n line + (if is_none (step_fault inertia c n line) then row_counts inertia c (n + 1) ls else 0)
+    else 0
 
 -- of all lines: none where a line before the steps has a fault
 abbrev pub rows_on : List (List ℕ) → ℕ
-rows_on ls = if is_none (first_in (heading_faults ls)) then row_counts (size (train_line ls) 1) (size (train_line ls) 4) 7 (drop 6 ls) else 0
+rows_on ls =
+    if is_none (first_in (heading_faults ls)) then row_counts (size (train_line ls) 1) (size (train_line ls) 4) 7 (drop 6 ls) else 0
 
 -- of a text
 abbrev pub rows_made : List ℕ → ℕ

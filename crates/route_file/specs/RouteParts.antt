@@ -1,14 +1,16 @@
 -- What the parts of a route's text give, as they are read one after another.
-use Rattle.std.specs.Prelude.{ℕ, ◌+◌, ◌*◌, ◌≡◌, ◌≤◌, true, false, List, [], ◌∷◌, ◌++◌, Option, Some, None, Result, Ok, Err, map, codes, pos, length, replicate, if◌then◌else◌}
+use Rattle.std.specs.Prelude.{ℕ, ℤ, ◌+◌, ◌*◌, ◌&&◌, ◌≡◌, ◌≤◌, true, false, List, [], ◌∷◌, ◌++◌, Option, Some, None, Result, Ok, Err, map, codes, pos, negsuc, length, replicate, if◌then◌else◌}
+use Rattle.std.specs.Int.RustNames.{unsigned_abs}
 use Rattle.std.specs.Str.{bytes_eq}
 use Rattle.route_file.specs.declared.fault.RouteFault.{RouteFault}
 use Rattle.route_file.specs.declared.fault.RouteFault.TheVariants.{Form, NoMemory}
 use Rattle.rail_specs.specs.declared.StepNumbers.{StepNumbers}
 use Rattle.rail_specs.specs.declared.TrainNumbers.{TrainNumbers}
 use Rattle.rail_base.specs.Lines.{size}
+use Rattle.rail_base.specs.Numbers.{is_within}
 use Rattle.route_file.specs.Route.{RouteStep, train_line, top_line, traction_line, brake_line, latest_line, train_numbers, is_step_line, step_on, step_fault, end_fault, row_count, step_numbers, ends_from}
 use Rattle.rail_specs.specs.Rules.{Rules}
-use Rattle.rail_specs.specs.Step.{IsTrainInRange}
+use Rattle.rail_specs.specs.Step.{step_of_train, IsTrainInRange}
 use Rattle.route_file.specs.declared.data.Heading.{Heading}
 use Rattle.route_file.specs.declared.data.StepLine.{StepLine}
 use Rattle.route_file.specs.declared.data.StepLists.{StepLists}
@@ -33,17 +35,27 @@ pub record IsHeading (h : Heading) : Type 0 where
   pub brake : h.brake ≤ 2000000
   pub latest : h.latest ≤ 172800
 
+-- the numbers of a step of the train, where length and gradient are in range
+abbrev pub step_in_range : TrainNumbers → ℤ → ℤ → Option StepNumbers
+step_in_range t metres gradient =
+    if is_within (pos 1) (pos 1000) metres && is_within (negsuc 999) (pos 1000) gradient then Some (step_of_train t (unsigned_abs metres) gradient)
+    else None
+
 -- a step's row and limit
 abbrev pub step_line : TrainNumbers → RouteStep → StepLine
 step_line t s = record { row = step_numbers t s; limit = s.limit }
 
 -- the fault of line n, behind the heading and before the end
 abbrev pub entry_fault : ℕ → ℕ → ℕ → List ℕ → Option RouteFault
-entry_fault inertia c n line = if is_step_line line then step_fault inertia c n line else if bytes_eq line (codes "end") then end_fault n else Some (Form n)
+entry_fault inertia c n line =
+    if is_step_line line then step_fault inertia c n line
+    else if bytes_eq line (codes "end") then end_fault n
+    else Some (Form n)
 
 -- what line n says, behind the heading and before the end: a step, the end, or its fault
 abbrev pub ReadsEntry : Result Entry RouteFault → TrainNumbers → ℕ → List ℕ → Type 0
-ReadsEntry (Ok (entry.Step s)) t n line = (is_step_line line ≡ true) × (step_fault t.inertia t.c n line ≡ None) × (s ≡ step_line t (step_on line))
+ReadsEntry (Ok (entry.Step s)) t n line =
+    (is_step_line line ≡ true) × (step_fault t.inertia t.c n line ≡ None) × (s ≡ step_line t (step_on line))
 ReadsEntry (Ok entry.End) t n line = (is_step_line line ≡ false) × (bytes_eq line (codes "end") ≡ true) × (end_fault n ≡ None)
 ReadsEntry (Err e) t n line = entry_fault t.inertia t.c n line ≡ Some e
 

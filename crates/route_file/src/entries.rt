@@ -1,12 +1,10 @@
 //! The steps of a route, and its end.
 
-ghost use Rattle.std.specs.Prelude.{[], ◌≡◌, ◌+◌, ◌&&◌, ℕ, ◌≤◌, pos, negsuc, Some, None, length, codes, IfOk, IfSome, OnOk, if◌then◌else◌};
-ghost use Rattle.std.specs.Int.RustNames.{unsigned_abs};
+ghost use Rattle.std.specs.Prelude.{[], ◌≡◌, ◌+◌, ◌≤◌, length, IfOk, IfSome, OnOk};
 ghost use Rattle.rail_base.specs.First.{first_in};
-ghost use Rattle.rail_base.specs.Numbers.{is_within};
 ghost use Rattle.route_file.specs.Route.{entry_faults, step_fault, step_on, steps_on, row_count, row_counts, unless, CountsRows};
-ghost use Rattle.rail_specs.specs.Step.{step_of_train, IsInRange, IsTrainInRange};
-ghost use Rattle.route_file.specs.RouteParts.{step_line, AnswersFault, AppendsStep, HasSteps, IsEmpty, ReadsEntry, CountsEntry};
+ghost use Rattle.rail_specs.specs.Step.{IsInRange, IsTrainInRange};
+ghost use Rattle.route_file.specs.RouteParts.{step_in_range, step_line, AnswersFault, AppendsStep, HasSteps, IsEmpty, ReadsEntry, CountsEntry};
 
 use crate::data::{Entry, StepLine, StepLists};
 use crate::fault::RouteFault;
@@ -54,7 +52,7 @@ fn append(lists: &mut StepLists, step: StepLine) -> Result<(), AllocError>
 /// The numbers of a step of the train, where length and gradient are in range.
 fn step_numbers(train: &TrainNumbers, metres: i64, gradient: i64) -> Option<StepNumbers>
     requires { IsTrainInRange train.now }
-    ensures value { result ≡ (if is_within (pos 1) (pos 1000) metres && is_within (negsuc 999) (pos 1000) gradient then Some (step_of_train train.now (unsigned_abs metres) gradient) else None) }
+    ensures value { result ≡ step_in_range train.now metres gradient }
     ensures in_range { IfSome result IsInRange }
 {
     let metres = natural_within(metres, 1, 1000)?;

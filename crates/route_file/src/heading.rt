@@ -35,13 +35,17 @@ fn train_of(numbers: [i64; 5]) -> Option<TrainNumbers>
     ensures value { result ≡ (if is_train numbers then Some (train_numbers (Some numbers)) else None) }
     ensures train { IfSome result IsTrainInRange }
 {
-    let [mass, inertia, a, b, c] = numbers;
+    let mass = natural_within(numbers[0], 1, 100_000)?;
+    let inertia = natural_within(numbers[1], 1, 120_000)?;
+    let a = natural_within(numbers[2], 0, 10_000_000)?;
+    let b = natural_within(numbers[3], 0, 10_000_000)?;
+    let c = natural_within(numbers[4], 0, 10_000_000)?;
     Some(TrainNumbers {
-        mass: natural_within(mass, 1, 100_000)?,
-        inertia: natural_within(inertia, 1, 120_000)?,
-        a: natural_within(a, 0, 10_000_000)?,
-        b: natural_within(b, 0, 10_000_000)?,
-        c: natural_within(c, 0, 10_000_000)?,
+        mass,
+        inertia,
+        a,
+        b,
+        c,
     })
 }
 

@@ -8,7 +8,7 @@ use rail_base::{Fields, Lines, read_field};
 /// Reads the fields of a text as numbers, one for each place. The answer is false exactly where the text has another
 /// number of fields, or one of them is no number.
 pub(crate) fn read_numbers(text: &[u8], numbers: &mut [i64]) -> bool
-    ensures { MatchBool result (numbers_in (length numbers.old) text.now ≡ Some numbers.new) (numbers_in (length numbers.old) text.now ≡ None) }
+    ensures { let read = numbers_in (length numbers.old) text.now in MatchBool result (read ≡ Some numbers.new) (read ≡ None) }
 {
     let mut fields = Fields::new(text);
     for number in numbers.iter_mut() {
@@ -23,7 +23,7 @@ pub(crate) fn read_numbers(text: &[u8], numbers: &mut [i64]) -> bool
 /// Reads the numbers of a line that has this word and then one number for each place. The answer is false exactly
 /// where the line is not of this form.
 pub(crate) fn read_after(word: &[u8], line: &[u8], numbers: &mut [i64]) -> bool
-    ensures { MatchBool result (numbers_after word.now (length numbers.old) line.now ≡ Some numbers.new) (numbers_after word.now (length numbers.old) line.now ≡ None) }
+    ensures { let read = numbers_after word.now (length numbers.old) line.now in MatchBool result (read ≡ Some numbers.new) (read ≡ None) }
 {
     if !line.starts_with(word) {
         return false;
@@ -33,7 +33,7 @@ pub(crate) fn read_after(word: &[u8], line: &[u8], numbers: &mut [i64]) -> bool
 
 /// Takes the next line and reads its numbers. The answer is false exactly where it is missing or not of this form.
 pub(crate) fn take_numbers(lines: &mut Lines<'_>, word: &[u8], numbers: &mut [i64]) -> bool
-    ensures form { MatchBool result (numbers_at lines.old 1 word.now (length numbers.old) ≡ Some numbers.new) (numbers_at lines.old 1 word.now (length numbers.old) ≡ None) }
+    ensures form { let read = numbers_at lines.old 1 word.now (length numbers.old) in MatchBool result (read ≡ Some numbers.new) (read ≡ None) }
     ensures rest { lines.new ≡ drop 1 lines.old }
 {
     match lines.next() {

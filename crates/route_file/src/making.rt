@@ -5,7 +5,7 @@ ghost use Rattle.route_file.specs.RouteParts.{rules_with, IsHeading};
 ghost use Rattle.rule_parts.specs.Shaped.{rules_of};
 
 use crate::data::{Heading, StepLists};
-use force_table::ForceTable;
+use force_table::{ForceTable, TableFault};
 use rail_specs::Timing;
 use rule_parts::Parts;
 use std::alloc::{AllocError, Global};
@@ -19,7 +19,8 @@ fn constant_table(alloc: Global, top: u16, force: u32) -> Result<ForceTable, All
 {
     match ForceTable::make(alloc, &[(0, force), (top, force)]) {
         Ok(table) => Ok(table),
-        Err(_) => Err(AllocError),
+        Err(TableFault::NoMemory) => Err(AllocError),
+        Err(_) => unreachable!(),
     }
 }
 
