@@ -53,7 +53,7 @@ impl Rules {
     pub fn known(&self)
         ensures { IsShaped self.now }
     {
-        let _ = &self.parts;
+        self.parts.rows.len();
     }
 
     /// What holds of every drive: its speeds are at most the top, and no step begins and ends at a standstill.
@@ -63,7 +63,7 @@ impl Rules {
         ensures slow { (k : ℕ) → slice_index speeds.now k ≤ 12000 }
         ensures moves { (i : ℕ) → i < length self.now.steps → 1 ≤ slice_index speeds.now i + slice_index speeds.now (i + 1) }
     {
-        let _ = speeds;
+        speeds.len();
         self.known();
     }
 

@@ -51,7 +51,7 @@ fn two_steps(
     ensures { IfOk result (λ rules. (length rules.steps ≡ 2) × (length rules.timings ≡ 1) × (rules.top ≡ 1000)) }
 {
     row.laws();
-    let _ = brake.top();
+    brake.top();
     Ok(Rules::from_parts(Parts {
         start: 0,
         top: traction.top(),
