@@ -10,7 +10,7 @@ mod lines;
 mod phases;
 mod reports;
 
-pub use late_texts::{late_text, no_drive_text};
 pub use kinds::Phase;
+pub use late_texts::{late_text, no_drive_text};
 pub use phases::phase;
 pub use reports::report;

@@ -1,14 +1,16 @@
 //! The report of a drive.
 
-ghost use Rattle.std.specs.Prelude.{◌≡◌, ◌++◌, ◌∷◌, ℕ, ◌+◌, ◌<◌, ◌≤◌, ◌==◌, ◌^◌, List, length, pos, IfOk, OnOk, IsTrue, ◌↔◌, if◌then◌else◌, [], slice_index};
+ghost use Rattle.std.specs.Prelude.{◌≡◌, ◌++◌, ◌∷◌, ℕ, ◌+◌, ◌<◌, ◌≤◌, ◌==◌, ◌^◌, List};
+ghost use Rattle.std.specs.Prelude.{length, pos, IfOk, OnOk, IsTrue, ◌↔◌, if◌then◌else◌, [], slice_index};
 ghost use Rattle.std.specs.List.{flat_map};
 ghost use Rattle.rail_specs.specs.Rules.{IsDrive};
 ghost use Rattle.rail_specs.specs.Times.{arrival_up};
 ghost use Rattle.drive_report.specs.Phase.{phase_at, phase_name};
-ghost use Rattle.drive_report.specs.Report.{gap_line, speeds_line, kilojoules_of, ends_run, run_start, phase_line, phase_lines, time_line, energy_lines, report_text};
+ghost use Rattle.drive_report.specs.Report.{gap_line, speeds_line, kilojoules_of, ends_run, run_start};
+ghost use Rattle.drive_report.specs.Report.{phase_line, phase_lines, time_line, energy_lines, report_text};
 
-use crate::lines::put_head;
 use crate::kinds::Phase;
+use crate::lines::put_head;
 use crate::phases::phase;
 use drive_rules::Rules;
 use rail_base::{put_line, put_number_line, put_spaced, put_word};
@@ -125,7 +127,8 @@ fn put_run(
     requires drive { IsDrive rules.now speeds.now }
     requires from { from ≤ i }
     requires step { i < length rules.now.steps }
-    ensures text { OnOk result (out.new.items ≡ out.old.items ++ (if ends_run rules.now speeds.now i then phase_line rules.now speeds.now from i else [])) }
+    ensures text { OnOk result (out.new.items ≡ out.old.items ++
+        (if ends_run rules.now speeds.now i then phase_line rules.now speeds.now from i else [])) }
     ensures next { IfOk result (λ next. next ≡ (if ends_run rules.now speeds.now i then i + 1 else from)) }
 {
     if !ends_run(rules, speeds, i) {
