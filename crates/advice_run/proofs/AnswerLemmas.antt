@@ -27,7 +27,8 @@ pub nothing_is_bound : (r : Rules) → IsBound traction_cost r (pos 0)
 nothing_is_bound r speeds d t = sum_not_negative (work_at r speeds) (length r.steps)
 
 -- the greatest drive is on time
-pub drive_answer : (r : Rules) (tolerance status : ℕ) (text speeds : List ℕ) (energy : ℤ) (met : Bool) → IsGreatestDrive r speeds → IsOnTimeUp r speeds
+pub drive_answer : (r : Rules) (tolerance status : ℕ) (text speeds : List ℕ) (energy : ℤ) (met : Bool)
+    → IsGreatestDrive r speeds → IsOnTimeUp r speeds
     → energy ≡ cost_of traction_cost r speeds → (IsTrue met ↔ GapMet energy (pos 0) tolerance) → status ≡ (if met then 0 else 1)
     → text ≡ report_text r speeds energy (pos 0) met → IsPlanAnswer traction_cost r tolerance status text
 drive_answer r tolerance status text speeds energy met g t e m s x = inr (inr (
@@ -54,7 +55,8 @@ drive_answer r tolerance status text speeds energy met g t e m s x = inr (inr (
 ))
 
 -- no drive is on time
-pub late_answer : (r : Rules) (tolerance : ℕ) (text speeds : List ℕ) (j : ℕ) → IsGreatestDrive r speeds → NoneOnTime r → IsFirstLate r speeds j
+pub late_answer : (r : Rules) (tolerance : ℕ) (text speeds : List ℕ) (j : ℕ) → IsGreatestDrive r speeds
+    → NoneOnTime r → IsFirstLate r speeds j
     → text ≡ late_text r j (arrival_up r speeds (timing_at r j).point) → IsPlanAnswer traction_cost r tolerance 5 text
 late_answer r tolerance text speeds j g n f x = inr (inl (
   speeds,
@@ -78,13 +80,16 @@ ok_map (Err e) P Q f h = tt
 -- ---- answers over files
 
 -- the answer to rules, where the files counted their steps
-pub rules_answered : (tolerance old new : ℕ) (r : Rules) (status : ℕ) (text : List ℕ) → new ≡ old + (length r.steps + 0) → IsPlanAnswer traction_cost r tolerance status text
+pub rules_answered : (tolerance old new : ℕ) (r : Rules) (status : ℕ) (text : List ℕ)
+    → new ≡ old + (length r.steps + 0) → IsPlanAnswer traction_cost r tolerance status text
     → IsRulesAnswer tolerance (new - old) r status text
 rules_answered tolerance old new r status text e h = (omega arith, h)
 
 -- the answer to joined rules, where the files counted no step
-pub joined_answered : (line : Line) (train : Train) (service : Service) (step tolerance old mid new status : ℕ) (text : List ℕ) → mid ≡ old + (0 + (0 + (0 + 0)))
-    → IsJoinedAnswer line train service step tolerance (new - mid) status text → IsJoinedAnswer line train service step tolerance (new - old) status text
+pub joined_answered : (line : Line) (train : Train) (service : Service) (step tolerance old mid new status : ℕ) (text : List ℕ)
+    → mid ≡ old + (0 + (0 + (0 + 0)))
+    → IsJoinedAnswer line train service step tolerance (new - mid) status text
+    → IsJoinedAnswer line train service step tolerance (new - old) status text
 joined_answered line train service step tolerance old mid new status text e h =
     let same : mid ≡ old = omega arith in
     subst (λ (m : ℕ). IsJoinedAnswer line train service step tolerance (new - m) status text) same h

@@ -1,6 +1,7 @@
 -- The words of a command, from what a parse says.
 use Rattle.std.proofs.Common.{◌≡◌, ◌∙◌, ◌∷◌, List, [], Option, Some, None, true, false, refl, sym, ap, unwrap_or, rules}
-use Rattle.clap.specs.Words.{App, HasMatchesOf, IsAmong, Kinds, Text, fault_of, first_value, found_of, is_simple, is_simple_and_free, matches_of, rows_of}
+use Rattle.clap.specs.Words.{App, HasMatchesOf, IsAmong, Kinds, Text, fault_of, first_value, found_of}
+use Rattle.clap.specs.Words.{is_simple, is_simple_and_free, matches_of, rows_of}
 use Rattle.clap.specs.Walk.{is_empty}
 use Rattle.clap.specs.Faults.{is_free_app}
 use Rattle.clap.specs.Simple.{built}
@@ -15,7 +16,8 @@ nonempty : {X : Type 0} (x : X) (xs : List X) → is_empty (x ∷ xs) ≡ false
 nonempty x xs = search rules
 
 -- a parse that succeeds
-pub taken-some : (a : App) (ws words : List Text) (m : ArgMatches) → is_simple_and_free a ≡ true → ws ≡ words → fault_of a ws ≡ [] → HasMatchesOf a ws m
+pub taken-some : (a : App) (ws words : List Text) (m : ArgMatches) → is_simple_and_free a ≡ true → ws ≡ words
+    → fault_of a ws ≡ [] → HasMatchesOf a ws m
     → Some (rows_of (found_of m)) ≡ taken a words
 unfolding taken
 taken-some a ws words m free f none has =

@@ -1,5 +1,6 @@
 -- What a run of the program leaves: its status and what it writes, and when a fault may come.
-use Rattle.std.specs.Prelude.{ℕ, ◌≡◌, ◌≤◌, ◌++◌, List, [], Option, Result, Ok, Err, String, string_bytes, codes, drop, length, map, take, ◌⊎◌}
+use Rattle.std.specs.Prelude.{ℕ, ◌≡◌, ◌≤◌, ◌++◌, List, [], Option, Result, Ok, Err, String, string_bytes, codes, drop}
+use Rattle.std.specs.Prelude.{length, map, take, ◌⊎◌}
 use Rattle.std.specs.declared.alloc.Global.{Global}
 use Rattle.line_file.specs.declared.line.Line.{Line}
 use Rattle.line_file.specs.declared.service.Service.{Service}
@@ -17,7 +18,8 @@ use Rattle.advice_run.specs.Words.{Command, Usage, Route, Plan}
 -- the text about usage: a line for each command
 abbrev pub usage_text : List ℕ
 usage_text =
-    text_line (codes "usage: advice route FILE [--tolerance N]") ++ text_line (codes "       advice plan LINE TRAIN SERVICE [--step N] [--tolerance N]")
+    text_line (codes "usage: advice route FILE [--tolerance N]")
+    ++ text_line (codes "       advice plan LINE TRAIN SERVICE [--step N] [--tolerance N]")
 
 -- ---- answers to what files say
 
@@ -44,13 +46,15 @@ MayWrite (Plan line train service step tolerance) told before now counted status
     (λ said. IsJoinedAnswer said.0 said.1.0 said.1.1.0 step tolerance counted) status text
 
 -- a whole text that the run may write was written, with its own status
-pub record Wrote (command : Command) (told : List ℕ → Told) (before now : List ℕ → ℕ) (counted : ℕ) (was is : Option (List ℕ)) (status : ℕ) : Type 0 where
+pub record Wrote (command : Command) (told : List ℕ → Told) (before now : List ℕ → ℕ)
+    (counted : ℕ) (was is : Option (List ℕ)) (status : ℕ) : Type 0 where
   pub text : List ℕ
   pub may : MayWrite command told before now counted status text
   pub appended : Appends was text is
 
 -- the front of a text that the run may write, with a status of its own, was written
-pub record WroteFront (command : Command) (told : List ℕ → Told) (before now : List ℕ → ℕ) (counted : ℕ) (was is : Option (List ℕ)) : Type 0 where
+pub record WroteFront (command : Command) (told : List ℕ → Told) (before now : List ℕ → ℕ)
+    (counted : ℕ) (was is : Option (List ℕ)) : Type 0 where
   pub text : List ℕ
   pub status : ℕ
   pub may : MayWrite command told before now counted status text

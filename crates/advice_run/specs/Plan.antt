@@ -20,7 +20,8 @@ pub record IsLateAnswer (r : Rules) (status : ℕ) (text : List ℕ) (speeds : L
   pub says : text ≡ late_text r j (arrival_up r speeds (timing_at r j).point)
 
 -- a drive is on time: its energy, a bound, and whether the gap between them is met, status 0, or open, status 1
-pub record IsDriveAnswer (cost : ℤ → ℤ) (r : Rules) (tolerance status : ℕ) (text : List ℕ) (speeds : List ℕ) (energy bound : ℤ) (met : Bool) : Type 0 where
+pub record IsDriveAnswer (cost : ℤ → ℤ) (r : Rules) (tolerance status : ℕ) (text : List ℕ)
+    (speeds : List ℕ) (energy bound : ℤ) (met : Bool) : Type 0 where
   pub drive : IsDrive r speeds
   pub on_time : IsOnTimeUp r speeds
   pub costs : energy ≡ cost_of cost r speeds
@@ -36,4 +37,5 @@ abbrev pub IsPlanAnswer : (ℤ → ℤ) → Rules → ℕ → ℕ → List ℕ �
 IsPlanAnswer cost r tolerance status text =
     IsNoDriveAnswer r status text
     ⊎ (((speeds : List ℕ) × ((j : ℕ) × IsLateAnswer r status text speeds j))
-    ⊎ ((speeds : List ℕ) × ((energy : ℤ) × ((bound : ℤ) × ((met : Bool) × IsDriveAnswer cost r tolerance status text speeds energy bound met)))))
+    ⊎ ((speeds : List ℕ) × ((energy : ℤ) × ((bound : ℤ) × ((met : Bool) ×
+    IsDriveAnswer cost r tolerance status text speeds energy bound met)))))

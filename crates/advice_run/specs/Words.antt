@@ -34,7 +34,9 @@ route_app = with_rule (with_rule (new_app (codes "route")) (positional (codes "f
 
 -- `plan LINE TRAIN SERVICE [--step N] [--tolerance N]`
 abbrev pub plan_app : App
-plan_app = with_rule (with_rule (with_rule (with_rule (with_rule (new_app (codes "plan")) (positional (codes "line"))) (positional (codes "train"))) (positional (codes "service")))
+plan_app =
+    with_rule (with_rule (with_rule (with_rule (with_rule (new_app (codes "plan")) (positional (codes "line")))
+    (positional (codes "train"))) (positional (codes "service")))
     (option (codes "step") (codes "100"))) (option (codes "tolerance") (codes "10"))
 
 -- ---- what clap takes of the words, and what the texts that it takes mean

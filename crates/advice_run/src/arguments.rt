@@ -42,8 +42,8 @@ fn words_of(alloc: Global, args: io::Result<env::Args>) -> Result<Words, AllocEr
     }
 }
 
-/// Runs the program over the arguments that the system gives: `run` with the words behind the first, which is the program's name. The status is
-/// that of `run`, and 8 where there is no memory for the words.
+/// Runs the program over the arguments that the system gives: `run` with the words behind the first, which is the program's name. The
+/// status is that of `run`, and 8 where there is no memory for the words.
 pub fn run_arguments<S: Shelf, K: Sink, L: Ledger>(
     alloc: Global,
     args: io::Result<env::Args>,
@@ -55,11 +55,15 @@ pub fn run_arguments<S: Shelf, K: Sink, L: Ledger>(
 
     // Where no put failed the whole text is written. It is the usage, the answer to the files, or a read fault whose
     // cause is that the count of the file's own name rose in this call.
-    ensures whole { result ≢ 7 → result ≢ 8 → Wrote (command_of (words_behind into_iter_items args)) (S.contents shelf.old) (S.faults shelf.old) (S.faults shelf.new) (steps.new - steps.old) (K.written sink.old) (K.written sink.new) result }
+    ensures whole { result ≢ 7 → result ≢ 8 →
+        Wrote (command_of (words_behind into_iter_items args)) (S.contents shelf.old) (S.faults shelf.old) (S.faults shelf.new)
+        (steps.new - steps.old) (K.written sink.old) (K.written sink.new) result }
 
     // A write fault comes only where the sink's count rose in this call, and the front of a text of this very input is written.
     ensures write_fault { result ≡ 7 → Rose (K.faults sink.old) (K.faults sink.new) }
-    ensures front { result ≡ 7 → WroteFront (command_of (words_behind into_iter_items args)) (S.contents shelf.old) (S.faults shelf.old) (S.faults shelf.new) (steps.new - steps.old) (K.written sink.old) (K.written sink.new) }
+    ensures front { result ≡ 7 →
+        WroteFront (command_of (words_behind into_iter_items args)) (S.contents shelf.old) (S.faults shelf.old) (S.faults shelf.new)
+        (steps.new - steps.old) (K.written sink.old) (K.written sink.new) }
 
     ensures no_memory { result ≡ 8 → K.written sink.new ≡ K.written sink.old }
 
@@ -69,7 +73,8 @@ pub fn run_arguments<S: Shelf, K: Sink, L: Ledger>(
 
     // Files are only read, and only those that the words name.
     ensures kept { (n : List ℕ) → S.contents shelf.new n ≡ S.contents shelf.old n }
-    ensures others { (n : List ℕ) → (Names (command_of (words_behind into_iter_items args)) n → ⊥) → S.faults shelf.new n ≡ S.faults shelf.old n }
+    ensures others { (n : List ℕ) → (Names (command_of (words_behind into_iter_items args)) n → ⊥)
+        → S.faults shelf.new n ≡ S.faults shelf.old n }
 {
     match words_of(alloc, args) {
         Ok(words) => run(alloc, &words, shelf, sink, steps),

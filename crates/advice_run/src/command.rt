@@ -47,7 +47,8 @@ pub fn answer<S: Shelf, L: Ledger>(
     shelf: &mut S,
     steps: &mut Steps<L>,
 ) -> Result<Answer, AllocError>
-    ensures may { IfOk result (λ a. MayWrite (command_of words.now) (S.contents shelf.old) (S.faults shelf.old) (S.faults shelf.new) (steps.new - steps.old) a.status a.text.items) }
+    ensures may { IfOk result (λ a. MayWrite (command_of words.now) (S.contents shelf.old) (S.faults shelf.old)
+        (S.faults shelf.new) (steps.new - steps.old) a.status a.text.items) }
     ensures kept { (n : List ℕ) → S.contents shelf.new n ≡ S.contents shelf.old n }
     ensures later { (n : List ℕ) → S.faults shelf.old n ≤ S.faults shelf.new n }
     ensures others { (n : List ℕ) → (Names (command_of words.now) n → ⊥) → S.faults shelf.new n ≡ S.faults shelf.old n }
@@ -66,7 +67,8 @@ fn answer_route_words<S: Shelf, L: Ledger>(
     shelf: &mut S,
     steps: &mut Steps<L>,
 ) -> Result<Answer, AllocError>
-    ensures may { IfOk result (λ a. MayWrite (command_by FirstWord.Route words.now) (S.contents shelf.old) (S.faults shelf.old) (S.faults shelf.new) (steps.new - steps.old) a.status a.text.items) }
+    ensures may { IfOk result (λ a. MayWrite (command_by FirstWord.Route words.now) (S.contents shelf.old) (S.faults shelf.old)
+        (S.faults shelf.new) (steps.new - steps.old) a.status a.text.items) }
     ensures kept { (n : List ℕ) → S.contents shelf.new n ≡ S.contents shelf.old n }
     ensures later { (n : List ℕ) → S.faults shelf.old n ≤ S.faults shelf.new n }
     ensures others { (n : List ℕ) → (Names (command_by FirstWord.Route words.now) n → ⊥) → S.faults shelf.new n ≡ S.faults shelf.old n }
@@ -84,7 +86,8 @@ fn answer_plan_words<S: Shelf, L: Ledger>(
     shelf: &mut S,
     steps: &mut Steps<L>,
 ) -> Result<Answer, AllocError>
-    ensures may { IfOk result (λ a. MayWrite (command_by FirstWord.Plan words.now) (S.contents shelf.old) (S.faults shelf.old) (S.faults shelf.new) (steps.new - steps.old) a.status a.text.items) }
+    ensures may { IfOk result (λ a. MayWrite (command_by FirstWord.Plan words.now) (S.contents shelf.old) (S.faults shelf.old)
+        (S.faults shelf.new) (steps.new - steps.old) a.status a.text.items) }
     ensures kept { (n : List ℕ) → S.contents shelf.new n ≡ S.contents shelf.old n }
     ensures later { (n : List ℕ) → S.faults shelf.old n ≤ S.faults shelf.new n }
     ensures others { (n : List ℕ) → (Names (command_by FirstWord.Plan words.now) n → ⊥) → S.faults shelf.new n ≡ S.faults shelf.old n }

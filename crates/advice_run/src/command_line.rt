@@ -2,7 +2,8 @@
 
 ghost use Rattle.std.specs.Prelude.{◌≡◌, ◌≤◌, ◌<◌, ◌^◌, ℕ, Some, true, IfOk, IfSome, MatchOption, option_map};
 ghost use Rattle.clap.specs.Words.{app_of, found_of, is_simple_and_free, rows_of, with_rule};
-ghost use Rattle.advice_run.specs.Words.{Plan, Route, Usage, number_in, option, plan_app, plan_of_rows, positional, route_app, route_of_rows, taken, value_of};
+ghost use Rattle.advice_run.specs.Words.{Plan, Route, Usage, number_in, option, plan_app, plan_of_rows};
+ghost use Rattle.advice_run.specs.Words.{positional, route_app, route_of_rows, taken, value_of};
 
 use crate::words::Words;
 use clap::error::ErrorKind;
@@ -113,7 +114,8 @@ pub fn read_route_words<'a>(
     alloc: Global,
     words: &'a Words,
 ) -> Result<Option<RouteWords<'a>>, AllocError>
-    ensures { IfOk result (λ r. MatchOption r (route_of_rows (taken route_app words.entry.now) ≡ Usage) (λ w. route_of_rows (taken route_app words.entry.now) ≡ Route w.file.now w.tolerance)) }
+    ensures { IfOk result (λ r. MatchOption r (route_of_rows (taken route_app words.entry.now) ≡ Usage)
+        (λ w. route_of_rows (taken route_app words.entry.now) ≡ Route w.file.now w.tolerance)) }
 {
     let command = route_command(alloc)?;
     match matches_of(command, words)? {
@@ -124,7 +126,8 @@ pub fn read_route_words<'a>(
 
 /// What the matches of the command `route` say, or none where a number is refused.
 fn route_words<'a>(matches: &ArgMatches<'a>) -> Option<RouteWords<'a>>
-    ensures { MatchOption result (route_of_rows (Some (rows_of (found_of matches.now))) ≡ Usage) (λ w. route_of_rows (Some (rows_of (found_of matches.now))) ≡ Route w.file.now w.tolerance) }
+    ensures { MatchOption result (route_of_rows (Some (rows_of (found_of matches.now))) ≡ Usage)
+        (λ w. route_of_rows (Some (rows_of (found_of matches.now))) ≡ Route w.file.now w.tolerance) }
 {
     let tolerance = number_in(value_of(matches, "tolerance"), 0, 1000)?;
     Some(RouteWords {
@@ -155,7 +158,8 @@ pub fn read_plan_words<'a>(
     alloc: Global,
     words: &'a Words,
 ) -> Result<Option<PlanWords<'a>>, AllocError>
-    ensures { IfOk result (λ r. MatchOption r (plan_of_rows (taken plan_app words.entry.now) ≡ Usage) (λ w. plan_of_rows (taken plan_app words.entry.now) ≡ Plan w.line.now w.train.now w.service.now w.step w.tolerance)) }
+    ensures { IfOk result (λ r. MatchOption r (plan_of_rows (taken plan_app words.entry.now) ≡ Usage)
+        (λ w. plan_of_rows (taken plan_app words.entry.now) ≡ Plan w.line.now w.train.now w.service.now w.step w.tolerance)) }
 {
     let command = plan_command(alloc)?;
     match matches_of(command, words)? {
@@ -166,7 +170,8 @@ pub fn read_plan_words<'a>(
 
 /// What the matches of the command `plan` say, or none where a number is refused.
 fn plan_words<'a>(matches: &ArgMatches<'a>) -> Option<PlanWords<'a>>
-    ensures { MatchOption result (plan_of_rows (Some (rows_of (found_of matches.now))) ≡ Usage) (λ w. plan_of_rows (Some (rows_of (found_of matches.now))) ≡ Plan w.line.now w.train.now w.service.now w.step w.tolerance) }
+    ensures { MatchOption result (plan_of_rows (Some (rows_of (found_of matches.now))) ≡ Usage)
+        (λ w. plan_of_rows (Some (rows_of (found_of matches.now))) ≡ Plan w.line.now w.train.now w.service.now w.step w.tolerance) }
 {
     let step = number_in(value_of(matches, "step"), 10, 1000)?;
     let tolerance = number_in(value_of(matches, "tolerance"), 0, 1000)?;

@@ -29,7 +29,8 @@ fn joined_answer<L: Ledger>(
     requires line { IsLine line.now }
     requires train { IsTrain train.now }
     requires service { IsService service.now }
-    ensures { IfOk result (λ a. IsJoinedAnswer line.now train.now service.now asked.now.step asked.now.tolerance (steps.new - steps.old) a.status a.text.items) }
+    ensures { IfOk result (λ a. IsJoinedAnswer line.now train.now service.now asked.now.step asked.now.tolerance
+        (steps.new - steps.old) a.status a.text.items) }
 {
     match fresh_rules(alloc, line, train, service, asked.step, steps)? {
         Stage::Read(rules) => rules_answer(alloc, &rules, asked.tolerance),
@@ -44,10 +45,15 @@ pub fn answer_plan<S: Shelf, L: Ledger>(
     shelf: &mut S,
     steps: &mut Steps<L>,
 ) -> Result<Answer, AllocError>
-    ensures may { IfOk result (λ a. MayWrite (Plan asked.now.line.now asked.now.train.now asked.now.service.now asked.now.step asked.now.tolerance) (S.contents shelf.old) (S.faults shelf.old) (S.faults shelf.new) (steps.new - steps.old) a.status a.text.items) }
+    ensures may { IfOk result (λ a.
+        MayWrite (Plan asked.now.line.now asked.now.train.now asked.now.service.now asked.now.step asked.now.tolerance)
+        (S.contents shelf.old) (S.faults shelf.old) (S.faults shelf.new)
+        (steps.new - steps.old) a.status a.text.items) }
     ensures kept { (n : List ℕ) → S.contents shelf.new n ≡ S.contents shelf.old n }
     ensures later { (n : List ℕ) → S.faults shelf.old n ≤ S.faults shelf.new n }
-    ensures others { (n : List ℕ) → (Names (Plan asked.now.line.now asked.now.train.now asked.now.service.now asked.now.step asked.now.tolerance) n → ⊥) → S.faults shelf.new n ≡ S.faults shelf.old n }
+    ensures others { (n : List ℕ) →
+        (Names (Plan asked.now.line.now asked.now.train.now asked.now.service.now asked.now.step asked.now.tolerance) n → ⊥)
+        → S.faults shelf.new n ≡ S.faults shelf.old n }
 {
     let line = File {
         kind: LineFile,

@@ -20,10 +20,12 @@ pub fn answer_route<S: Shelf, L: Ledger>(
     shelf: &mut S,
     steps: &mut Steps<L>,
 ) -> Result<Answer, AllocError>
-    ensures may { IfOk result (λ a. MayWrite (Route asked.now.file.now asked.now.tolerance) (S.contents shelf.old) (S.faults shelf.old) (S.faults shelf.new) (steps.new - steps.old) a.status a.text.items) }
+    ensures may { IfOk result (λ a. MayWrite (Route asked.now.file.now asked.now.tolerance)
+        (S.contents shelf.old) (S.faults shelf.old) (S.faults shelf.new) (steps.new - steps.old) a.status a.text.items) }
     ensures kept { (n : List ℕ) → S.contents shelf.new n ≡ S.contents shelf.old n }
     ensures later { (n : List ℕ) → S.faults shelf.old n ≤ S.faults shelf.new n }
-    ensures others { (n : List ℕ) → (Names (Route asked.now.file.now asked.now.tolerance) n → ⊥) → S.faults shelf.new n ≡ S.faults shelf.old n }
+    ensures others { (n : List ℕ) → (Names (Route asked.now.file.now asked.now.tolerance) n → ⊥)
+        → S.faults shelf.new n ≡ S.faults shelf.old n }
 {
     let route = File {
         kind: RouteFile,

@@ -41,7 +41,8 @@ fn late_answer(
 ) -> Result<Answer, AllocError>
     requires greatest { IsGreatestDrive rules.now speeds.now }
     requires late { IsFirstLate rules.now speeds.now at.timing }
-    requires slower { (d : List ℕ) → IsDrive rules.now d → ((k : ℕ) → slice_index d k ≤ slice_index speeds.now k) → IsOnTimeUp rules.now d → ⊥ }
+    requires slower { (d : List ℕ) → IsDrive rules.now d → ((k : ℕ) → slice_index d k ≤ slice_index speeds.now k)
+        → IsOnTimeUp rules.now d → ⊥ }
     requires arrival { at.arrival ≡ arrival_up rules.now speeds.now (timing_at rules.now at.timing).point }
     ensures { IfOk result (λ a. IsPlanAnswer traction_cost rules.now tolerance a.status a.text.items) }
 {

@@ -4,6 +4,9 @@ use crate::runs::{Ended, plain, put_file, run_words};
 use std::alloc::{AllocError, Global};
 use std::test::Fail;
 
+const USAGE: &str =
+    "usage: advice route FILE [--tolerance N]\n       advice plan LINE TRAIN SERVICE [--step N] [--tolerance N]\n";
+
 const LINE: &str = "kind,from,to,value\nlimit,0,200,36\ngradient,0,200,0\n";
 
 const TRAIN: &str =
@@ -149,6 +152,7 @@ fn files_are_read_in_the_order_of_the_words(rt: HostRuntime) -> Result<(), Fail>
     ] {
         let got = run_words(alloc, words, plain(alloc))?;
         assert_eq!(rt; got.status, 2);
+        assert_eq!(rt; got.text.as_str(), USAGE);
     }
     let wide = plan_ended(
         alloc,
@@ -174,5 +178,32 @@ fn forty_kilometres_are_planned(rt: HostRuntime) -> Result<(), Fail> {
     let got = plan_ended(alloc, line, train, service, &["--step", "200"])?;
     assert_eq!(rt; got.status, 1);
     assert!(rt; got.text.as_str().starts_with("advice 1\ngap open\nenergy "));
+    let (_, behind) = got
+        .text
+        .as_str()
+        .split_once("\nspeeds ")
+        .expect(&rt, "a line of speeds");
+    let (mut points, mut stands) = (0u32, 0u32);
+    for speed in behind.split(' ') {
+        points = points.saturating_add(1);
+        if speed == "0" {
+            stands = stands.saturating_add(1);
+        }
+    }
+    assert_eq!(rt; points, 201, "points");
+    // At each call but the last, which ends the line.
+    assert_eq!(rt; stands, 3, "calls");
+    Ok(())
+}
+
+/// Joined rules have 4,000 steps at most.
+#[test]
+fn rules_of_too_many_steps_are_refused(rt: HostRuntime) -> Result<(), Fail> {
+    let alloc = rt.alloc();
+    let line = "kind,from,to,value\nlimit,0,40010,36\ngradient,0,40010,0\n";
+    let service = "place,name,dwell,latest\n0,A,,\n40010,B,,9000\n";
+    let got = plan_ended(alloc, line, TRAIN, service, &["--step", "10"])?;
+    assert_eq!(rt; got.status, 3);
+    assert_eq!(rt; got.text.as_str(), "refused rules too-many-steps\n");
     Ok(())
 }

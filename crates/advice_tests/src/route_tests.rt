@@ -1,6 +1,6 @@
 //! The command `route`.
 
-use crate::runs::{Ended, plain, put_file, run_words};
+use crate::runs::{Ended, plain, put_file, run_words, run_words_twice};
 use std::alloc::{AllocError, Global};
 use std::test::Fail;
 
@@ -87,6 +87,64 @@ fn routes_are_answered(rt: HostRuntime) -> Result<(), Fail> {
         assert_eq!(rt; got.status, status, "{route}");
         assert_eq!(rt; got.text.as_str(), text, "{route}");
     }
+    Ok(())
+}
+
+/// The steps of a route, and the report of its greatest drive.
+fn phased(case: u32) -> (&'static [&'static str], &'static str) {
+    match case {
+        // Rolls from 1,000 to 989 cm/s: one more would take traction.
+        0 => (
+            &[LEVEL, LEVEL, "100 0 989"],
+            "advice 1\ngap open\nenergy 10200000000000\nkilojoules 5100\nbound 0\nphase 0 100 power 0 1000\nphase 100 200 coast 1000 989\nphase 200 300 brake 989 0\ntime 300 50279 60000\nspeeds 0 1000 989 0\nend\n",
+        ),
+        // Up to a limit, with less traction than there is; 5,090.005 kJ.
+        _ => (
+            &["100 0 999", "100 0 999"],
+            "advice 1\ngap open\nenergy 10180010000000\nkilojoules 5091\nbound 0\nphase 0 100 part 0 999\nphase 100 200 brake 999 0\ntime 200 40042 60000\nspeeds 0 999 0\nend\n",
+        ),
+    }
+}
+
+#[test]
+fn coasting_part_traction_and_begun_kilojoules_are_told(rt: HostRuntime) -> Result<(), Fail> {
+    let alloc = rt.alloc();
+    for case in 0..2 {
+        let (steps, text) = phased(case);
+        let route = route_of(alloc, 51_000, 60, steps)?;
+        let got = route_ended(alloc, route.as_bytes())?;
+        assert_eq!(rt; got.status, 1);
+        assert_eq!(rt; got.text.as_str(), text);
+    }
+    Ok(())
+}
+
+/// A route has 4,000 steps at most.
+#[test]
+fn routes_of_too_many_steps_are_refused(rt: HostRuntime) -> Result<(), Fail> {
+    let alloc = rt.alloc();
+    let steps = vec![in alloc; LEVEL; 4_001]?;
+    let route = route_of(alloc, 51_000, 50, steps.as_slice())?;
+    let got = route_ended(alloc, route.as_bytes())?;
+    assert_eq!(rt; got.status, 3);
+    assert_eq!(rt; got.text.as_str(), "refused route too-many-steps\n");
+    Ok(())
+}
+
+/// The first run's fault is none of the second's.
+#[test]
+fn a_fault_of_an_earlier_run_is_not_told_again(rt: HostRuntime) -> Result<(), Fail> {
+    let alloc = rt.alloc();
+    let route = route_of(alloc, 51_000, 39, &[LEVEL, LEVEL])?;
+    let mut failing = plain(alloc);
+    put_file(alloc, &mut failing.files, "a.route", route.as_bytes())?;
+    failing.failing_fetches.push(1)?;
+    let got = run_words_twice(alloc, &["route", "a.route"], failing)?;
+    assert_eq!(rt; got.status, 5);
+    assert_eq!(rt;
+        got.text.as_str(),
+        "read fault route\nadvice 1\nlate 200 40000 39000\n"
+    );
     Ok(())
 }
 

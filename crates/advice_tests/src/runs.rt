@@ -9,7 +9,7 @@ use std::marker::Brand;
 use std::sync::ledger::{Blank, Ledger};
 use step_energy::Steps;
 
-/// What a run left: the status that it ended with, and what it wrote.
+/// What runs left: the status that the last ended with, and what they wrote.
 #[derive(Debug, PartialEq, Eq, Drop)]
 pub struct Ended {
     pub status: u8,
@@ -53,11 +53,12 @@ pub fn put_file(
     Ok(())
 }
 
-/// What a run with these words leaves, with a counter of its own.
+/// What so many runs with these words leave, one after the other over the same files and the same stream, with a counter of their own.
 fn run_counted<L: Ledger>(
     alloc: Global,
     words: &[&str],
     setting: Setting,
+    runs: u32,
     blank: Blank,
 ) -> Result<Ended, AllocError>
     requires piece { 1 ≤ setting.piece }
@@ -72,7 +73,10 @@ fn run_counted<L: Ledger>(
     let mut shelf = MemoryShelf::new(alloc, setting.files, setting.failing_fetches);
     let mut sink = MemorySink::new(alloc, setting.piece, setting.room, setting.failing_puts)?;
     let mut steps: Steps<L> = Steps::new(blank);
-    let status = run(alloc, &list, &mut shelf, &mut sink, &mut steps);
+    let mut status = 0;
+    for _ in 0..runs {
+        status = run(alloc, &list, &mut shelf, &mut sink, &mut steps);
+    }
     let text = String::from_utf8_lossy(alloc, sink.bytes())?;
     Ok(Ended { status, text })
 }
@@ -81,5 +85,12 @@ fn run_counted<L: Ledger>(
 pub fn run_words(alloc: Global, words: &[&str], setting: Setting) -> Result<Ended, AllocError>
     requires { 1 ≤ setting.piece }
 {
-    run_counted::<Brand>(alloc, words, setting, Blank::new(1))
+    run_counted::<Brand>(alloc, words, setting, 1, Blank::new(1))
+}
+
+/// What two runs with these words leave, one after the other over the same files and the same stream.
+pub fn run_words_twice(alloc: Global, words: &[&str], setting: Setting) -> Result<Ended, AllocError>
+    requires { 1 ≤ setting.piece }
+{
+    run_counted::<Brand>(alloc, words, setting, 2, Blank::new(1))
 }

@@ -19,7 +19,8 @@ held_short (Some (Some file)) most got f s =
     f ∙ take_all (most + 1) file few
 
 -- and those that are too long are the front of a file that is too long
-held_long : (t : Told) (most : ℕ) (got : List ℕ) → Fetches t (most + 1) got → most < length got → (file : List ℕ) × (MayHold t file × (most < length file))
+held_long : (t : Told) (most : ℕ) (got : List ℕ) → Fetches t (most + 1) got → most < length got
+    → (file : List ℕ) × (MayHold t file × (most < length file))
 held_long None most got f s = (got, (tt, s))
 held_long (Some None) most got f s = absurd f
 held_long (Some (Some file)) most got f s =
@@ -27,7 +28,8 @@ held_long (Some (Some file)) most got f s =
     (file, (refl, omega (arith, length-take (most + 1) file)))
 
 -- what was fetched and measured
-fetched_from : (role : List ℕ) (most : ℕ) (name : List ℕ) (told : List ℕ → Told) (before now : List ℕ → ℕ) (got : List ℕ) (stage : Stage (Vec ℕ Global))
+fetched_from : (role : List ℕ) (most : ℕ) (name : List ℕ) (told : List ℕ → Told) (before now : List ℕ → ℕ)
+    (got : List ℕ) (stage : Stage (Vec ℕ Global))
     → Fetches (told name) (most + 1) got → IsMeasured role most got stage → IsFetched role most name told before now stage
 fetched_from role most name told before now got (Read bytes) f m =
     let short : length got ≤ most = m.0 in
@@ -37,7 +39,8 @@ fetched_from role most name told before now got (Ends answer) f m =
     inr (l.0, (l.1.0, l.1.1, m.1))
 
 -- the same where there was memory
-pub fetched_ok : (role : List ℕ) (most : ℕ) (name : List ℕ) (told : List ℕ → Told) (before now : List ℕ → ℕ) (got : List ℕ) {E : Type 0} (r : Result (Stage (Vec ℕ Global)) E)
+pub fetched_ok : (role : List ℕ) (most : ℕ) (name : List ℕ) (told : List ℕ → Told) (before now : List ℕ → ℕ)
+    (got : List ℕ) {E : Type 0} (r : Result (Stage (Vec ℕ Global)) E)
     → Fetches (told name) (most + 1) got → IfOk r (IsMeasured role most got) → IfOk r (IsFetched role most name told before now)
 fetched_ok role most name told before now got (Ok stage) f m = fetched_from role most name told before now got stage f m
 fetched_ok role most name told before now got (Err e) f m = tt

@@ -46,7 +46,8 @@ IsFileEnd kind name told before now status text =
     IsReadFault kind.role name before now status text ⊎ IsTooLong kind name told status text ⊎ IsFaulty kind name told status text
 
 -- the run may end at the file of this kind and name, or, once that was read, in this way behind it
-abbrev pub first_ends : {A F : Type 0} → Kind A F → List ℕ → (List ℕ → Told) → (List ℕ → ℕ) → (List ℕ → ℕ) → (ℕ → List ℕ → Type 0) → ℕ → List ℕ → Type 0
+abbrev pub first_ends : {A F : Type 0} → Kind A F → List ℕ → (List ℕ → Told) → (List ℕ → ℕ) → (List ℕ → ℕ)
+    → (ℕ → List ℕ → Type 0) → ℕ → List ℕ → Type 0
 first_ends {A} {F} kind name told before now behind status text =
     IsFileEnd kind name told before now status text ⊎ ((said : A) × (Says kind name told said × behind status text))
 

@@ -15,17 +15,27 @@ rose_sooner : (a b now : ℕ) → a ≤ b → Rose b now → Rose a now
 rose_sooner a b now h r = omega arith
 
 -- a run that may end at a file
-ends_there : {A F : Type 0} (kind : Kind A F) (name : List ℕ) (told told' : List ℕ → Told) (before before' now : List ℕ → ℕ) (status : ℕ) (text : List ℕ)
-    → told' name ≡ told name → before name ≤ before' name → IsFileEnd kind name told' before' now status text → IsFileEnd kind name told before now status text
+ends_there : {A F : Type 0} (kind : Kind A F) (name : List ℕ) (told told' : List ℕ → Told) (before before' now : List ℕ → ℕ)
+    (status : ℕ) (text : List ℕ)
+    → told' name ≡ told name → before name ≤ before' name → IsFileEnd kind name told' before' now status text
+    → IsFileEnd kind name told before now status text
 ends_there kind name told told' before before' now status text same fewer (inl fault) =
     inl record { cause = rose_sooner (before name) (before' name) (now name) fewer fault.cause; ends = fault.ends; says = fault.says }
 ends_there kind name told told' before before' now status text same fewer (inr (inl h)) =
     inr (inl record { file = h.file; held = subst (λ (t : Told). MayHold t h.file) same h.held; long = h.long; says = h.says })
 ends_there kind name told told' before before' now status text same fewer (inr (inr h)) =
-    inr (inr record { file = h.file; held = subst (λ (t : Told). MayHold t h.file) same h.held; short = h.short; fault = h.fault; reads = h.reads; says = h.says })
+    inr (inr record {
+      file = h.file;
+      held = subst (λ (t : Told). MayHold t h.file) same h.held;
+      short = h.short;
+      fault = h.fault;
+      reads = h.reads;
+      says = h.says;
+    })
 
 -- a run that may end at a file, or at one behind it
-pub ends_along : {A F : Type 0} (kind : Kind A F) (name : List ℕ) (told told' : List ℕ → Told) (before before' now : List ℕ → ℕ) (rest rest' : Type 0) (status : ℕ) (text : List ℕ)
+pub ends_along : {A F : Type 0} (kind : Kind A F) (name : List ℕ) (told told' : List ℕ → Told)
+    (before before' now : List ℕ → ℕ) (rest rest' : Type 0) (status : ℕ) (text : List ℕ)
     → told' name ≡ told name → before name ≤ before' name → (rest' → rest)
     → IsFileEnd kind name told' before' now status text ⊎ ((said : A) × (Says kind name told' said × rest'))
     → IsFileEnd kind name told before now status text ⊎ ((said : A) × (Says kind name told said × rest))

@@ -17,12 +17,14 @@ abbrev pub IsFetched : List ℕ → ℕ → List ℕ → (List ℕ → Told) →
 IsFetched role most name told before now (Read bytes) = MayHold (told name) bytes.items × (length bytes.items ≤ most)
 IsFetched role most name told before now (Ends answer) =
     IsReadFault role name before now answer.status answer.text.items
-    ⊎ ((file : List ℕ) × (MayHold (told name) file × (most < length file) × IsRefusal role (codes "too-long") answer.status answer.text.items))
+    ⊎ ((file : List ℕ) × (MayHold (told name) file × (most < length file)
+    × IsRefusal role (codes "too-long") answer.status answer.text.items))
 
 -- what was found in a file of this kind, or the refusal by the words of its fault
 abbrev pub IsSaid : {A F : Type 0} → Kind A F → Result A F → Stage A → Type 0
 IsSaid kind found (Read said) = found ≡ Ok said
-IsSaid {A} {F} kind found (Ends answer) = (fault : F) × ((found ≡ Err fault) × IsRefusal kind.role (kind.words fault) answer.status answer.text.items)
+IsSaid {A} {F} kind found (Ends answer) =
+    (fault : F) × ((found ≡ Err fault) × IsRefusal kind.role (kind.words fault) answer.status answer.text.items)
 
 -- what files say, or an answer that ends the run at one of them
 abbrev pub IsStage : {A : Type 0} → (ℕ → List ℕ → Type 0) → (A → Type 0) → Stage A → Type 0

@@ -40,7 +40,8 @@ pub trait FileList {
         shelf: &mut S,
         steps: &mut Steps<L>,
     ) -> Result<Stage<Self::Said>, AllocError>
-        ensures stage { IfOk result (IsStage (ends self.now (S.contents shelf.old) (S.faults shelf.old) (S.faults shelf.new)) (says self.now (S.contents shelf.old))) }
+        ensures stage { IfOk result (IsStage (ends self.now (S.contents shelf.old) (S.faults shelf.old) (S.faults shelf.new))
+            (says self.now (S.contents shelf.old))) }
         ensures shape { IfOk result (OnRead shape) }
         ensures kept { (n : List ℕ) → S.contents shelf.new n ≡ S.contents shelf.old n }
         ensures later { (n : List ℕ) → S.faults shelf.old n ≤ S.faults shelf.new n }
@@ -96,7 +97,8 @@ impl<'a, F: FileRole, R: FileList> FileList for (File<'a, F>, R) {
 
     ghost says = { λ files told said. Says F.kind files.0.name.now told said.0 × R.says files.1 told said.1 };
 
-    ghost ends = { λ files told before now status text. first_ends F.kind files.0.name.now told before now (R.ends files.1 told before now) status text };
+    ghost ends = { λ files told before now status text.
+        first_ends F.kind files.0.name.now told before now (R.ends files.1 told before now) status text };
 
     ghost shape = { λ said. F.shape said.0 × R.shape said.1 };
 
@@ -119,9 +121,14 @@ impl<'a, F: FileRole, R: FileList> FileList for (File<'a, F>, R) {
         }
     }
 
-    ghost says_still = { λ files told told' said same h. (says_there F.kind files.0.name.now told told' said.0 (same files.0.name.now) h.0, R.says_still files.1 told told' said.1 same h.1) };
+    ghost says_still = { λ files told told' said same h. (
+      says_there F.kind files.0.name.now told told' said.0 (same files.0.name.now) h.0,
+      R.says_still files.1 told told' said.1 same h.1,
+    ) };
 
-    ghost ends_still = { λ files told told' before before' now status text same fewer h. ends_along F.kind files.0.name.now told told' before before' now
-        (R.ends files.1 told before now status text) (R.ends files.1 told' before' now status text) status text (same files.0.name.now) (fewer files.0.name.now)
+    ghost ends_still = { λ files told told' before before' now status text same fewer h.
+        ends_along F.kind files.0.name.now told told' before before' now
+        (R.ends files.1 told before now status text) (R.ends files.1 told' before' now status text) status text
+        (same files.0.name.now) (fewer files.0.name.now)
         (R.ends_still files.1 told told' before before' now status text same fewer) h };
 }

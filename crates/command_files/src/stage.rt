@@ -84,7 +84,9 @@ pub fn read_file<F: FileRole, S: Shelf, L: Ledger>(
     shelf: &mut S,
     steps: &mut Steps<L>,
 ) -> Result<Stage<F::Said>, AllocError>
-    ensures stage { IfOk result (IsStage (IsFileEnd F.kind file.now.name.now (S.contents shelf.old) (S.faults shelf.old) (S.faults shelf.new)) (Says F.kind file.now.name.now (S.contents shelf.old))) }
+    ensures stage { IfOk result
+        (IsStage (IsFileEnd F.kind file.now.name.now (S.contents shelf.old) (S.faults shelf.old) (S.faults shelf.new))
+        (Says F.kind file.now.name.now (S.contents shelf.old))) }
     ensures shape { IfOk result (OnRead F.shape) }
     ensures kept { (n : List ℕ) → S.contents shelf.new n ≡ S.contents shelf.old n }
     ensures later { (n : List ℕ) → S.faults shelf.old n ≤ S.faults shelf.new n }

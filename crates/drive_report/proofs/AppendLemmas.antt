@@ -6,6 +6,7 @@ pub appended_three : (o x y z a b c : List ℕ) → x ≡ o ++ a → y ≡ x ++ 
 appended_three o x y z a b c p q r = r ∙ ap (λ (t : List ℕ). t ++ c) (q ∙ ap (λ (t : List ℕ). t ++ b) p) ∙ simp append_assoc
 
 -- five pieces
-pub appended_five : (o u v x y z a b c d e : List ℕ) → u ≡ o ++ a → v ≡ u ++ b → x ≡ v ++ c → y ≡ x ++ d → z ≡ y ++ e → z ≡ o ++ (a ++ b ++ c ++ d ++ e)
+pub appended_five : (o u v x y z a b c d e : List ℕ) → u ≡ o ++ a → v ≡ u ++ b → x ≡ v ++ c → y ≡ x ++ d → z ≡ y ++ e
+    → z ≡ o ++ (a ++ b ++ c ++ d ++ e)
 appended_five o u v x y z a b c d e p q r s t =
     t ∙ ap (λ (w : List ℕ). w ++ e) (s ∙ ap (λ (w : List ℕ). w ++ d) (appended_three o u v x a b c p q r)) ∙ simp append_assoc

@@ -1,5 +1,6 @@
 -- The texts that the program prints. Each line ends with a line feed, numbers are in their shortest decimal spelling.
-use Rattle.std.specs.Prelude.{ℕ, zero, suc, ◌+◌, ◌/◌, ◌==◌, ◌||◌, not, List, [], ◌∷◌, ◌++◌, ℤ, pos, negsuc, neg_ℤ, codes, length, slice_index, Bool, true, false, if◌then◌else◌}
+use Rattle.std.specs.Prelude.{ℕ, zero, suc, ◌+◌, ◌/◌, ◌==◌, ◌||◌, not, List, [], ◌∷◌, ◌++◌, ℤ, pos, negsuc, neg_ℤ}
+use Rattle.std.specs.Prelude.{codes, length, slice_index, Bool, true, false, if◌then◌else◌}
 use Rattle.std.specs.Int.{div_ceil}
 use Rattle.std.specs.List.{flat_map}
 use Rattle.rail_base.specs.Texts.{line, spaced, number_line}
@@ -19,7 +20,9 @@ no_drive_text = head_line ++ line (codes "no drive")
 -- the line of the timing point of index j, where the drive that arrives at this time is the first to be late: its place in
 -- metres, the arrival and the latest time in ms
 abbrev pub late_line : Rules → ℕ → ℕ → List ℕ
-late_line r j arrival = line (codes "late" ++ spaced (pos (slice_index r.places (timing_at r j).point)) ++ spaced (pos arrival) ++ spaced (timing_at r j).latest)
+late_line r j arrival =
+    line (codes "late" ++ spaced (pos (slice_index r.places (timing_at r j).point))
+    ++ spaced (pos arrival) ++ spaced (timing_at r j).latest)
 
 -- the text where no drive is on time
 abbrev pub late_text : Rules → ℕ → ℕ → List ℕ
@@ -61,7 +64,8 @@ phase_lines r speeds (suc i) = phase_lines r speeds i ++ (if ends_run r speeds i
 
 -- the line of a timing point: its place in metres, the arrival, step times rounded up, and the latest time, in ms
 unfoldable pub time_line : Rules → List ℕ → Timing → List ℕ
-time_line r speeds t = line (codes "time" ++ spaced (pos (slice_index r.places t.point)) ++ spaced (pos (arrival_up r speeds t.point)) ++ spaced t.latest)
+time_line r speeds t =
+    line (codes "time" ++ spaced (pos (slice_index r.places t.point)) ++ spaced (pos (arrival_up r speeds t.point)) ++ spaced t.latest)
 
 -- the lines of the energy, also in kilojoules, and of the bound
 abbrev pub energy_lines : ℤ → ℤ → List ℕ
@@ -71,5 +75,6 @@ energy_lines energy bound =
 -- the report of a drive: whether the gap is met, its energy and the bound, its phases, its times, and its speeds
 abbrev pub report_text : Rules → List ℕ → ℤ → ℤ → Bool → List ℕ
 report_text r speeds energy bound met =
-    head_line ++ gap_line met ++ energy_lines energy bound ++ phase_lines r speeds (length r.steps) ++ flat_map (time_line r speeds) r.timings
+    head_line ++ gap_line met ++ energy_lines energy bound ++ phase_lines r speeds (length r.steps)
+    ++ flat_map (time_line r speeds) r.timings
     ++ speeds_line speeds ++ line (codes "end")

@@ -15,7 +15,8 @@ fn is_fastest(rules: &Rules, i: usize, v0: u16, v1: u16) -> bool
     requires step { i < length rules.now.steps }
     requires gains { v0 < v1 }
     requires exit { v1 ≤ 12000 }
-    ensures { result ≡ (nat_lt rules.now.top (v1 + 1) || int_lt (pos (traction_work rules.now i (v1 + 1))) (work (step_at rules.now i) v0 (v1 + 1))) }
+    ensures { result ≡ (nat_lt rules.now.top (v1 + 1)
+        || int_lt (pos (traction_work rules.now i (v1 + 1))) (work (step_at rules.now i) v0 (v1 + 1))) }
 {
     v1 + 1 > rules.top() || !rules.traction_reaches(i, v0, v1 + 1)
 }

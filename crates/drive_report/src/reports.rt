@@ -1,10 +1,13 @@
 //! The report of a drive.
 
-ghost use Rattle.std.specs.Prelude.{◌≡◌, ◌++◌, ◌∷◌, ℕ, ◌+◌, ◌<◌, ◌≤◌, ◌==◌, ◌^◌, List, length, pos, IfOk, OnOk, IsTrue, ◌↔◌, if◌then◌else◌, [], slice_index};
+ghost use Rattle.std.specs.Prelude.{◌≡◌, ◌++◌, ◌∷◌, ℕ, ◌+◌, ◌<◌, ◌≤◌, ◌==◌, ◌^◌, List};
+ghost use Rattle.std.specs.Prelude.{length, pos, IfOk, OnOk, IsTrue, ◌↔◌, if◌then◌else◌, [], slice_index};
 ghost use Rattle.std.specs.List.{flat_map};
 ghost use Rattle.rail_specs.specs.Rules.{IsDrive};
+ghost use Rattle.rail_specs.specs.Times.{arrival_up};
 ghost use Rattle.drive_report.specs.Phase.{phase_at, phase_name};
-ghost use Rattle.drive_report.specs.Report.{gap_line, speeds_line, kilojoules_of, ends_run, run_start, phase_line, phase_lines, time_line, energy_lines, report_text};
+ghost use Rattle.drive_report.specs.Report.{gap_line, speeds_line, kilojoules_of, ends_run, run_start};
+ghost use Rattle.drive_report.specs.Report.{phase_line, phase_lines, time_line, energy_lines, report_text};
 
 use crate::kinds::Phase;
 use crate::lines::put_head;
@@ -124,7 +127,8 @@ fn put_run(
     requires drive { IsDrive rules.now speeds.now }
     requires from { from ≤ i }
     requires step { i < length rules.now.steps }
-    ensures text { OnOk result (out.new.items ≡ out.old.items ++ (if ends_run rules.now speeds.now i then phase_line rules.now speeds.now from i else [])) }
+    ensures text { OnOk result (out.new.items ≡ out.old.items ++
+        (if ends_run rules.now speeds.now i then phase_line rules.now speeds.now from i else [])) }
     ensures next { IfOk result (λ next. next ≡ (if ends_run rules.now speeds.now i then i + 1 else from)) }
 {
     if !ends_run(rules, speeds, i) {
@@ -151,7 +155,7 @@ fn put_phases(
     Ok(())
 }
 
-/// Appends the line of a timing point.
+/// Appends the line of a timing point, where the drive arrives at this time.
 #[tactic(auto, unfolding(crate::specs::Report::time_line))]
 fn put_time(
     alloc: Global,
@@ -159,14 +163,16 @@ fn put_time(
     rules: &Rules,
     speeds: &[u16],
     at: Timing,
+    arrival: u64,
 ) -> Result<(), AllocError>
     requires drive { IsDrive rules.now speeds.now }
     requires point { at.point ≤ length rules.now.steps }
+    requires arrival { arrival ≡ arrival_up rules.now speeds.now at.point }
     ensures { OnOk result (out.new.items ≡ out.old.items ++ time_line rules.now speeds.now at) }
 {
     out.extend_from_slice(b"time")?;
     put_spaced(alloc, out, rules.place(at.point as usize) as i128)?;
-    put_spaced(alloc, out, rules.arrival(speeds, at.point as usize) as i128)?;
+    put_spaced(alloc, out, arrival as i128)?;
     put_spaced(alloc, out, at.latest as i128)?;
     out.push(b'\n')?;
     Ok(())
@@ -183,8 +189,13 @@ fn put_times(
     ensures { OnOk result (out.new.items ≡ out.old.items ++ flat_map (time_line rules.now speeds.now) rules.now.timings) }
 {
     let timings = rules.timings();
+    let mut point = 0;
+    let mut time = 0;
     for j in 0..timings.len() {
-        put_time(alloc, out, rules, speeds, timings[j])?;
+        let at = timings[j];
+        time = rules.arrival_from(speeds, point, time, at.point as usize);
+        point = at.point as usize;
+        put_time(alloc, out, rules, speeds, at, time)?;
     }
     Ok(())
 }

@@ -181,4 +181,19 @@ impl Rules {
         self.known();
         self.time_at(speeds, 0, 0, k)
     }
+
+    /// The time of arrival of a drive at point `to`, ms from its start, from that at point `from`, which isn't behind it: the steps
+    /// between them alone are looked at.
+    pub fn arrival_from(&self, speeds: &[u16], from: usize, time: u64, to: usize) -> u64
+        requires drive { IsDrive self.now speeds.now }
+        requires forward { from ≤ to }
+        requires point { to ≤ length self.now.steps }
+        requires known { time ≡ arrival_up self.now speeds.now from }
+        requires early { time ≤ 210000000 * from }
+        ensures value { result ≡ arrival_up self.now speeds.now to }
+        ensures early { result ≤ 210000000 * to }
+    {
+        self.known();
+        self.time_at(speeds, from, time, to)
+    }
 }

@@ -1,5 +1,6 @@
 -- The counts of a map, as a list by name.
-use Rattle.std.proofs.Common.{◌≡◌, ℕ, List, [], ◌∷◌, Option, Some, Bool, true, false, cond, refl, unwrap_or, is_some, String, string_bytes, map}
+use Rattle.std.proofs.Common.{◌≡◌, ℕ, List, [], ◌∷◌, Option, Some}
+use Rattle.std.proofs.Common.{Bool, true, false, cond, refl, unwrap_or, is_some, String, string_bytes, map}
 use Rattle.std.specs.Ordering.{nat_cmp}
 use Rattle.std.specs.declared.alloc.Global.{Global}
 use Rattle.std.specs.BTreeMap.{BTreeMap, get_by_text, is_at}

@@ -17,7 +17,8 @@ appends-more (Some a) (Some b) None xs ys p q = q
 appends-more (Some a) (Some b) (Some c) xs ys p q = q ∙ ap (λ zs. zs ++ ys) p ∙ append_assoc a xs ys
 
 -- one more put of what is left
-pub put-step : (old a b : Option (List ℕ)) (text : List ℕ) (at n : ℕ) → at ≤ length text → Appends old (take at text) a → Puts a (take (length text - at) (drop at text)) b n
+pub put-step : (old a b : Option (List ℕ)) (text : List ℕ) (at n : ℕ) → at ≤ length text
+    → Appends old (take at text) a → Puts a (take (length text - at) (drop at text)) b n
     → (at + n ≤ length text) × Appends old (take (at + n) text) b
 put-step old a b text at n h p q =
     let size = length-drop at text in

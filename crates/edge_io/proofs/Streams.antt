@@ -18,8 +18,10 @@ appends-more (Some a) (Some b) None xs ys p q = absurd q
 appends-more (Some a) (Some b) (Some c) xs ys p q = q ∙ ap (λ zs. zs ++ ys) p ∙ append_assoc a xs ys
 
 -- one more write of what is left
-pub write-step : (a b c : Option (List ℕ)) (text : List ℕ) (at n : ℕ) → at ≤ length text → n ≤ length (take (length text - at) (drop at text))
-    → Appends a b (take at text) → Appends b c (take n (take (length text - at) (drop at text))) → (at + n ≤ length text) × Appends a c (take (at + n) text)
+pub write-step : (a b c : Option (List ℕ)) (text : List ℕ) (at n : ℕ) → at ≤ length text
+    → n ≤ length (take (length text - at) (drop at text))
+    → Appends a b (take at text) → Appends b c (take n (take (length text - at) (drop at text)))
+    → (at + n ≤ length text) × Appends a c (take (at + n) text)
 write-step a b c text at n h m p q =
     let size = length-drop at text in
     let whole : take (length text - at) (drop at text) ≡ drop at text = take_all (length text - at) (drop at text) (omega arith) in

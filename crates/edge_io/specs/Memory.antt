@@ -1,5 +1,6 @@
 -- What a shelf in memory and a sink in memory hold, and what their next call does.
-use Rattle.std.specs.Prelude.{◌==◌, ◌||◌, ◌+◌, ◌-◌, ◌^◌, ◌++◌, Bool, ℕ, List, [], ◌∷◌, Option, Some, None, if◌then◌else◌, is_none, unwrap_or, nat_le, min, length, take}
+use Rattle.std.specs.Prelude.{◌==◌, ◌||◌, ◌+◌, ◌-◌, ◌^◌, ◌++◌, Bool, ℕ, List, [], ◌∷◌, Option, Some, None}
+use Rattle.std.specs.Prelude.{if◌then◌else◌, is_none, unwrap_or, nat_le, min, length, take}
 use Rattle.std.specs.List.{list_any}
 use Rattle.std.specs.Str.{bytes_eq}
 use Rattle.edge_io.specs.Counts.{raised}

@@ -88,7 +88,8 @@ impl Shelf for MemoryShelf {
         ensures given { IfOk result (λ v. option_map (λ file. take most file) (next_file self.old name.now) ≡ Some v.items) }
         ensures failed { result ≡ Err FetchFault.Failed → next_file self.old name.now ≡ None }
         ensures calls { result ≢ Err FetchFault.NoMemory → self.new.calls ≡ counted self.old.calls }
-        ensures no_memory { result ≡ Err FetchFault.NoMemory → (self.new ≡ self.old) ⊎ (IsTrue (has_name self.new.faults name.now) × (self.new.calls ≡ counted self.old.calls)) }
+        ensures no_memory { result ≡ Err FetchFault.NoMemory
+            → (self.new ≡ self.old) ⊎ (IsTrue (has_name self.new.faults name.now) × (self.new.calls ≡ counted self.old.calls)) }
         ensures files { self.new.files ≡ self.old.files }
         ensures fails { self.new.fails ≡ self.old.fails }
         ensures raised { result ≡ Err FetchFault.Failed → count_in self.new.faults name.now ≡ raised (count_in self.old.faults name.now) }

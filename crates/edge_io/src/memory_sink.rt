@@ -27,7 +27,8 @@ impl Model for MemorySink {
 
     ghost Value = { MemoryBytes };
 
-    ghost view = { λ s. record { piece = s.piece; room = s.room; fails = s.fails.items; calls = s.calls; faults = s.faults; written = s.bytes.items } };
+    ghost view = { λ s.
+        record { piece = s.piece; room = s.room; fails = s.fails.items; calls = s.calls; faults = s.faults; written = s.bytes.items } };
 
     ghost invariant = { λ s. (0 < s.piece) × (s.room ≤ vec_capacity s.bytes) };
 }

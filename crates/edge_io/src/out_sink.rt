@@ -77,7 +77,8 @@ impl<W: Write + Drop> Sink for OutSink<W> {
         ensures empty { length piece.now ≡ 0 → (result ≡ Ok 0) × (self.new ≡ self.old) }
         ensures taken { IfOk result (λ n. (n ≤ length piece.now) × (0 < length piece.now → 0 < n)) }
         ensures streamed { IfOk result (λ n. Appends (W.contents self.old.0) (W.contents self.new.0) (take n piece.now)) }
-        ensures front { OnErr result ((n : ℕ) × (n ≤ length piece.now) × Appends (W.contents self.old.0) (W.contents self.new.0) (take n piece.now)) }
+        ensures front { OnErr result ((n : ℕ) × (n ≤ length piece.now)
+            × Appends (W.contents self.old.0) (W.contents self.new.0) (take n piece.now)) }
         ensures whole { result ≡ Ok (length piece.now) → self.new.1 ≡ self.old.1 }
         ensures raised { result ≢ Ok (length piece.now) → self.new.1 ≡ raised self.old.1 }
         ensures cause { HasCause self.old.1 self.new.1 result }

@@ -9,7 +9,8 @@ use Rattle.train_file.specs.declared.train.Train.{Train}
 use Rattle.plan_files.specs.FreshRules.{FreshRules, fresh_setup}
 
 -- a setup at rest at the first call
-pub fresh_is : (s : Setup) (service : Service) (step : ℕ) → s.step ≡ step → s.place ≡ first_place service.calls → s.speed ≡ 0 → s.clock ≡ 0 → s.stretches ≡ [] → s ≡ fresh_setup service step
+pub fresh_is : (s : Setup) (service : Service) (step : ℕ)
+    → s.step ≡ step → s.place ≡ first_place service.calls → s.speed ≡ 0 → s.clock ≡ 0 → s.stretches ≡ [] → s ≡ fresh_setup service step
 fresh_is s service step a b c d e = λ i. record { step = a i; place = b i; speed = c i; clock = d i; stretches = e i }
 
 -- rules from there

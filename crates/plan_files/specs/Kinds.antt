@@ -47,7 +47,8 @@ RouteSays name told said = Says route_kind name told said.0 × ⊤
 -- a run may end at one of the files of a line, a train and a service, read in this order
 abbrev pub PlanEnds : List ℕ → List ℕ → List ℕ → (List ℕ → Told) → (List ℕ → ℕ) → (List ℕ → ℕ) → ℕ → List ℕ → Type 0
 PlanEnds line train service told before now =
-    first_ends line_kind line told before now (first_ends train_kind train told before now (first_ends service_kind service told before now (λ _ _. ⊥)))
+    first_ends line_kind line told before now
+    (first_ends train_kind train told before now (first_ends service_kind service told before now (λ _ _. ⊥)))
 
 -- what the files of a line, a train and a service may say
 abbrev pub PlanSays : List ℕ → List ℕ → List ℕ → (List ℕ → Told) → Line × (Train × (Service × ⊤)) → Type 0

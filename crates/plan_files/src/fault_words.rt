@@ -2,7 +2,8 @@
 
 ghost use Rattle.std.specs.Prelude.{◌≡◌, ◌≢◌, ◌++◌, ◌∷◌, ℕ, pos, IfOk, OnOk};
 ghost use Rattle.rail_base.specs.Texts.{spaced};
-ghost use Rattle.plan_files.specs.FaultWords.{key_name, line_fault_words, route_fault_words, rules_fault_words, service_fault_words, train_fault_words};
+ghost use Rattle.plan_files.specs.FaultWords.{key_name, line_fault_words, route_fault_words};
+ghost use Rattle.plan_files.specs.FaultWords.{rules_fault_words, service_fault_words, train_fault_words};
 
 use drive_rules::{RouteFault, RulesFault};
 use line_file::{LineFault, ServiceFault};
@@ -123,7 +124,8 @@ pub(crate) fn train_words(alloc: Global, fault: TrainFault) -> Result<Vec<u8>, A
     }
 }
 
-/// The words of a fault of the rules that a line, a train and a service give together. The only error is want of memory, which the fault may itself be.
+/// The words of a fault of the rules that a line, a train and a service give together. The only error is want of memory, which the
+/// fault may itself be.
 pub(crate) fn rules_words(alloc: Global, fault: RulesFault) -> Result<Vec<u8>, AllocError>
     ensures sound { OnOk result (fault ≢ RulesFault.NoMemory) }
     ensures words { IfOk result (λ text. text.items ≡ rules_fault_words fault) }

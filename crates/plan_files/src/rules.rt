@@ -29,7 +29,8 @@ pub fn fresh_rules<L: Ledger>(
     requires train { IsTrain train.now }
     requires service { IsService service.now }
     requires step { (10 ≤ step) × (step ≤ 1000) }
-    ensures stage { IfOk result (IsStage (IsRulesRefusal line.now train.now service.now step) (FreshRules line.now train.now service.now step)) }
+    ensures stage { IfOk result (IsStage (IsRulesRefusal line.now train.now service.now step)
+        (FreshRules line.now train.now service.now step)) }
     ensures counted { IfOk result (OnRead (λ rules. steps.new ≡ steps.old + length rules.steps)) }
 {
     let setup = Setup::fresh(alloc, step as u16, service);

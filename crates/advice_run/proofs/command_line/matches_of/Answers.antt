@@ -6,7 +6,8 @@ use Rattle.advice_run.proofs.command_line.matches_of.Goals as goal
 pub returns-in-Ok : goal.returns-in-Ok
 returns-in-Ok c =
     let words = c.texts.ensures in
-    taken-some (app_of c.args.command) _ c.args.words.now c.in-Ok.matches c.requires words (c.in-Ok.ensures.kinds c.requires) c.in-Ok.ensures.matches
+    taken-some (app_of c.args.command) _ c.args.words.now c.in-Ok.matches c.requires
+    words (c.in-Ok.ensures.kinds c.requires) c.in-Ok.ensures.matches
 
 pub returns : goal.returns
 returns c =

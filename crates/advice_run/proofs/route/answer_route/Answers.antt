@@ -9,6 +9,14 @@ pub returns-in-Read-clause-may : goal.returns-in-Read-clause-may
 returns-in-Read-clause-may g c =
     let says = rw c.in-Read.is at c.in_ok-said.ensures.stage in
     let counted = rw c.in-Read.is at c.in_ok-said.ensures.counted in
-    ok_map c.rules_answer.result (λ (a : Answer). IsPlanAnswer traction_cost c.in-Read.said.0 c.args.asked.now.tolerance a.status a.text.items) _
-    (λ a h. inr (c.in-Read.said, (says, rules_answered c.args.asked.now.tolerance c.args.steps.now c.read_all.new.steps c.in-Read.said.0 a.status a.text.items counted h)))
+    ok_map c.rules_answer.result
+    (λ (a : Answer). IsPlanAnswer traction_cost c.in-Read.said.0 c.args.asked.now.tolerance a.status a.text.items) _
+    (λ a h. inr (
+      c.in-Read.said,
+      (
+        says,
+        rules_answered c.args.asked.now.tolerance c.args.steps.now c.read_all.new.steps
+            c.in-Read.said.0 a.status a.text.items counted h,
+      ),
+    ))
     c.rules_answer.ensures

@@ -22,8 +22,10 @@ returns c =
     let at_place : c.place.result ≡ slice_index r.places (timing_at r j).point =
     c.place.ensures.value ∙ ap (λ (ts : List Timing). slice_index r.places (slice_index_or ts j no_timing).point) same in
     let at_latest : latest ≡ (timing_at r j).latest = ap (λ (ts : List Timing). (slice_index_or ts j no_timing).latest) same in
-    appended_five c.args.out.now.items c.extend_from_slice.new.self.items c.put_spaced.new.out.items c.put_spaced-2.new.out.items c.put_spaced-3.new.out.items c.push.new.self.items
-    (codes "late") (spaced (pos (slice_index r.places (timing_at r j).point))) (spaced (pos c.args.arrival)) (spaced (timing_at r j).latest) (10 ∷ [])
+    appended_five c.args.out.now.items c.extend_from_slice.new.self.items c.put_spaced.new.out.items
+    c.put_spaced-2.new.out.items c.put_spaced-3.new.out.items c.push.new.self.items
+    (codes "late") (spaced (pos (slice_index r.places (timing_at r j).point))) (spaced (pos c.args.arrival))
+    (spaced (timing_at r j).latest) (10 ∷ [])
     c.in_ok-extend_from_slice.ensures.items
     (c.in_ok-put_spaced.ensures ∙ ap (λ (z : ℤ). c.extend_from_slice.new.self.items ++ spaced z) (place ∙ ap pos at_place))
     (c.in_ok-put_spaced-2.ensures ∙ ap (λ (z : ℤ). c.put_spaced.new.out.items ++ spaced z) arrival)

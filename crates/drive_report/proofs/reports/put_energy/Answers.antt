@@ -13,5 +13,6 @@ returns c =
     let k : to_z w128 (of_z w128 c.kilojoules.result) ≡ c.kilojoules.result = omega (arith, ints) in
     let j : c.kilojoules.result ≡ kilojoules_of c.args.energy = c.kilojoules.ensures ∙ ap kilojoules_of e in
     appended_three c.args.out.now.items c.put_number_line.new.out.items c.put_number_line-2.new.out.items c.put_number_line-3.new.out.items
-    (number_line (codes "energy") c.args.energy) (number_line (codes "kilojoules") (kilojoules_of c.args.energy)) (number_line (codes "bound") c.args.bound)
+    (number_line (codes "energy") c.args.energy) (number_line (codes "kilojoules") (kilojoules_of c.args.energy))
+    (number_line (codes "bound") c.args.bound)
     (rw e at c.in_ok-put_number_line.ensures) (rw (k, j) at c.in_ok-put_number_line-2.ensures) (rw b at c.in_ok-put_number_line-3.ensures)

@@ -9,7 +9,9 @@ loop-i-preserved c =
     let speeds = c.args.speeds.now in
     let start = c.loop-i.invariant.start (omega arith) in
     record {
-      begun = begun_goes_on (ends_run r speeds c.loop-i.i) c.in_ok-from.from c.loop-i.from c.loop-i.i c.loop-i.invariant.begun c.in_ok-from.ensures.next;
+      begun = begun_goes_on (ends_run r speeds c.loop-i.i) c.in_ok-from.from c.loop-i.from c.loop-i.i
+          c.loop-i.invariant.begun c.in_ok-from.ensures.next;
       start = run_goes_on r speeds c.loop-i.i c.loop-i.from c.in_ok-from.from start c.in_ok-from.ensures.next;
-      text = phase_lines_more r speeds c.loop-i.out.items c.put_run.new.out.items c.loop-i.i c.loop-i.from c.args.out.now.items start c.loop-i.invariant.text c.in_ok-from.ensures.text;
+      text = phase_lines_more r speeds c.loop-i.out.items c.put_run.new.out.items c.loop-i.i c.loop-i.from c.args.out.now.items
+          start c.loop-i.invariant.text c.in_ok-from.ensures.text;
     }
