@@ -1,7 +1,7 @@
 -- Lists of states.
-use Rattle.std.proofs.Common.{ℕ, zero, suc, ◌≡◌, ◌+◌, ◌<◌, ◌∷◌, ◌∙◌, List, [], ◌++◌, Bool, true, false, zero-add, refl, inl, inr, sym, ap, map, filter, length, get_or, drop, take, drop-cons, add-one, arith, set}
+use Rattle.std.proofs.Common.{ℕ, zero, suc, ◌≡◌, ◌+◌, ◌<◌, ◌∷◌, ◌∙◌, List, [], ◌++◌, Bool, true, false, zero-add, ◌-◌, refl, inl, inr, sym, ap, map, filter, length, get_or, drop, take, drop-cons, add-one, arith, set}
 use Rattle.std.proofs.lemmas.List.{take_more, map-append, get_or_push, length-append, append-nil}
-use Rattle.std.proofs.lemmas.List.FromFn.{filter_of_map_range_with_len_more}
+use Rattle.std.proofs.lemmas.List.FromFn.{filter_of_map_range_with_len_more, map-range_with_len_more}
 use Rattle.std.specs.List.{range_with_len}
 use Rattle.std.proofs.lemmas.Bool.{cases_lt}
 use Rattle.std.proofs.Math.ListN.{get_or-append}
@@ -61,3 +61,20 @@ points-more p xs n e t = rw (filter_of_map_range_with_len_more p (λ i. i + 1) 0
 
 pub points-same : (p : ℕ → Bool) (xs : List ℕ) (n : ℕ) → xs ≡ from_one p n → p (n + 1) ≡ false → xs ≡ from_one p (n + 1)
 points-same p xs n e t = rw (filter_of_map_range_with_len_more p (λ i. i + 1) 0 n n (zero-add n), t) (e ∙ sym (append-nil _))
+
+-- ---- the images of numbers in a row
+
+-- one more image
+pub images-more : {B : Type 0} (f : ℕ → B) (xs : List B) (n : ℕ) (x : B) → xs ≡ map f (range_with_len 0 n) → x ≡ f n
+    → xs ++ x ∷ [] ≡ map f (range_with_len 0 (n + 1))
+images-more f xs n x e at = rw (map-range_with_len_more f 0 n n (zero-add n)) (ap (λ ys. ys ++ x ∷ []) e ∙ ap (λ y. map f (range_with_len 0 n) ++ y ∷ []) at)
+
+-- the first image of those from a up to b
+pub images-first : {B : Type 0} (f : ℕ → B) (a b : ℕ) → a < b → map f (range_with_len a (b - a)) ≡ f a ∷ map f (range_with_len (a + 1) (b - (a + 1)))
+images-first f a b h = let e : b - a ≡ suc (b - (a + 1)) = omega arith in rw e refl
+
+-- what stands at a place of a list, whatever stands past its end
+pub get-any : (xs : List ℕ) (i x : ℕ) → i < length xs → x ≡ get_or xs i x → x ≡ get_or xs i 0
+get-any [] i x h e = absurd (omega arith)
+get-any (y ∷ xs) zero x h e = e
+get-any (y ∷ xs) (suc i) x h e = get-any xs i x (omega arith) e

@@ -6,8 +6,12 @@
 
 mod ask;
 mod dips;
+mod early_braking;
+mod late_coasting;
 mod proposer;
 
 pub use ask::{ask_all, drop_silent, improve};
 pub use dips::Dips;
+pub use early_braking::EarlyBraking;
+pub use late_coasting::LateCoasting;
 pub use proposer::Proposer;
