@@ -1,0 +1,9 @@
+use Rattle.bound_specs.specs.Chains.{IsAtMost}
+use Rattle.price_rounds.specs.Rounds.{IsValued}
+use Rattle.price_rounds.proofs.rounds.go_round.Given as goal
+
+abbrev pub invariant-loop : goal.invariant-loop
+invariant-loop g l = record {
+  valued : IsValued (g.C.StepCost.cost l.cost) l.rules l.cells l.best;
+  no_less : IsAtMost l.initial.best.value l.best.value;
+}
