@@ -50,6 +50,9 @@ try 1 answers/6km_timed.txt plan 6km/line.csv 6km/train.toml 6km/timed.csv --ste
 try 5 'advice 1|late 4000 272952 270000|' plan 6km/line.csv 6km/train.toml 6km/late.csv --step 500
 try 5 'advice 1|late 200 40000 39000|' route late.route
 
+# A train of 100 m is too long for a slack in the limits: its tail is in the section with the lower limit all the way.
+try 5 'advice 1|late 300 100000 99000|' plan slack/line.csv slack/train.toml slack/service.csv
+
 # No drive: the hill takes more force than the train has.
 try 4 'advice 1|no drive|' plan 6km/steep.csv 6km/train.toml 6km/service.csv --step 500
 try 4 'advice 1|no drive|' route too_steep.route

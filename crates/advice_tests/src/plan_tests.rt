@@ -75,6 +75,33 @@ fn files_are_joined_and_planned(rt: HostRuntime) -> Result<(), Fail> {
 }
 
 #[test]
+fn a_limit_holds_until_the_tail_is_out(rt: HostRuntime) -> Result<(), Fail> {
+    let alloc = rt.alloc();
+    let line = "kind,from,to,value\nlimit,0,100,18\nlimit,100,300,36\ngradient,0,300,0\n";
+    let long_train =
+        "length = 100\nmass = 1000\ninertia = 1000\na = 1000\nb = 0\nc = 0\ntraction = [[0, 51000], [1000, 51000]]\nbrake = [[0, 100000], [1000, 100000]]\n";
+    // The short train runs at 500 and then 1000 cm/s, the long one at 500 cm/s all the way.
+    let cases: [(&str, &str, &str); 2] = [
+        (
+            TRAIN,
+            "place,name,dwell,latest\n0,A,,\n300,B,,73\n",
+            "advice 1\nlate 300 73334 73000\n",
+        ),
+        (
+            long_train,
+            "place,name,dwell,latest\n0,A,,\n300,B,,99\n",
+            "advice 1\nlate 300 100000 99000\n",
+        ),
+    ];
+    for (train, service, text) in cases {
+        let got = plan_ended(alloc, line, train, service, &[])?;
+        assert_eq!(rt; got.status, 5, "{service}");
+        assert_eq!(rt; got.text.as_str(), text, "{service}");
+    }
+    Ok(())
+}
+
+#[test]
 fn line_files_are_refused_by_their_role(rt: HostRuntime) -> Result<(), Fail> {
     let alloc = rt.alloc();
     let cases: [(&str, &str); 3] = [
@@ -96,7 +123,11 @@ fn line_files_are_refused_by_their_role(rt: HostRuntime) -> Result<(), Fail> {
 #[test]
 fn train_files_are_refused_by_their_role(rt: HostRuntime) -> Result<(), Fail> {
     let alloc = rt.alloc();
-    let cases: [(&str, &str); 2] = [
+    let cases: [(&str, &str); 3] = [
+        (
+            "version = 2\nregeneration = 500\nlength = 1001\nmass = 1000\ninertia = 1000\na = 1000\nb = 0\nc = 0\n",
+            "refused train out-of-range length\n",
+        ),
         (
             "mass = 1000\ninertia = 1000\na = 1000\nb = 0\nc = 0\ntraction = [[0, 51000], [500, 50000], [1000, 50001]]\nbrake = [[0, 100000], [1000, 100000]]\n",
             "refused train table-rises traction 3\n",

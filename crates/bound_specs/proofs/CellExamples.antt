@@ -20,6 +20,7 @@ run = record {
   top = 1000;
   traction = replicate 1001 51000;
   brake = replicate 1001 100000;
+  train_length = 0;
   steps = level ∷ level ∷ [];
   limits = 1000 ∷ 1000 ∷ [];
   places = 0 ∷ 100 ∷ 200 ∷ [];

@@ -164,6 +164,14 @@ impl Rules {
         &self.parts.brake
     }
 
+    /// How long the train is, m, at most 1,000; 0 on a route. Each limit holds until the train's tail has left the limit's section.
+    pub fn length(&self) -> u32
+        ensures value { result ≡ self.now.train_length }
+        ensures small { result ≤ 1000 }
+    {
+        self.parts.train_length
+    }
+
     /// The points with a latest time, in order. The last point is the last of them.
     pub fn timings(&self) -> &[Timing]
         ensures value { result.now ≡ self.now.timings }

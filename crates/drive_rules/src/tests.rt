@@ -8,7 +8,7 @@ use crate::judge::{Judged, Rule};
 use crate::making::read_route;
 use crate::rules::Rules;
 use force_table::{ForceTable, SpeedTable};
-use rail_base::Traction;
+use rail_base::{Regained, Traction};
 use rail_specs::{StepNumbers, Timing};
 use rule_parts::Parts;
 use std::alloc::{AllocError, Global};
@@ -57,6 +57,7 @@ fn two_steps(
         top: traction.top(),
         traction,
         brake,
+        train_length: 0,
         rows: Vec::from_slice(alloc, &[row, row])?,
         limits: Vec::from_slice(alloc, &[1000, 1000])?,
         places: Vec::from_slice(alloc, &[0, 100, 200])?,
@@ -171,6 +172,24 @@ fn judges_the_route_of_two_steps(rt: HostRuntime) {
         judged_alike(rt.alloc(), ROUTE, &[0, 800]),
         Some(Judged::Broken(Rule::Length, 0))
     );
+}
+
+#[test]
+fn judges_what_braking_gives_back(rt: HostRuntime) {
+    let Some(rules) = read_with::<Brand>(rt.alloc(), ROUTE, Blank::new(1)) else {
+        panic!(rt; "the route cannot be read");
+    };
+    assert!(rt; rules.length() == 0);
+    for (cost, energy) in [
+        (Regained::nothing(), 6_600_000_000_000),
+        (Regained { share: 500 }, 3_500_000_000_000),
+        (Regained { share: 60_000 }, 400_000_000_000),
+    ] {
+        assert_eq!(rt;
+            rules.judge(&[0, 800, 0], &cost),
+            Judged::Kept { cost: energy }
+        );
+    }
 }
 
 /// Whether the readers give the parts of the example.

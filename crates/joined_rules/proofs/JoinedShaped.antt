@@ -47,8 +47,8 @@ step_light train gradients s e n is light = elim (cases_lt (n.c * n.metres) (100
 ]
 
 -- a limit is at most 12,000
-low_limit : (line : Line) (service : Service) (setup : Setup) (s e v : ℕ) → IsLine line → IsSetup service setup → IsLeastLimit line.limits setup.stretches s e v → v ≤ 12000
-low_limit line service setup s e v h u is = elim is.reached [
+low_limit : (line : Line) (service : Service) (setup : Setup) (metres s e v : ℕ) → IsLine line → IsSetup service setup → IsLeastLimit line.limits setup.stretches metres s e v → v ≤ 12000
+low_limit line service setup metres s e v h u is = elim is.reached [
   | inl (k, l, m, at) ↦ omega (arith, ints, at, (h.limits.each k l).value.1)
   | inr (k, l, m, at) ↦ omega (arith, at, (u.stretches k l).limit.1)
 ]
@@ -142,12 +142,13 @@ shaped line train service setup r h t s u j few apart light short few_timings =
       brake_top = ap (λ (xs : List ℕ). length xs) j.brake_is ∙ sym t.tops ∙ sym j.top_is;
       traction = subst (λ (xs : List ℕ). IsForceTable xs) (sym j.traction_is) t.traction;
       brake = subst (λ (xs : List ℕ). IsForceTable xs) (sym j.brake_is) t.brake;
+      short_train = omega (arith, j.length_is, t.short);
       numbers = λ i l. step_in_range line train (get_or r.places i 0) (get_or r.places (i + 1) 0) (step_at r i) h t (g.rises i (in_points i l))
           (omega (arith, u.step.1, short_steps marks step from to r.places g span (omega (arith, u.step.0)) i (in_points i l))) (j.each_step i l);
       small_drag = λ i l. step_light train line.gradients (get_or r.places i 0) (get_or r.places (i + 1) 0) (step_at r i) (j.each_step i l) (light i l);
       limits = j.limits_are;
       low_limits = λ i. elim (cases_lt i n) [
-        | inl b ↦ low_limit line service setup (get_or r.places i 0) (get_or r.places (i + 1) 0) (get_or r.limits i 0) h u (j.each_limit i b)
+        | inl b ↦ low_limit line service setup train.length (get_or r.places i 0) (get_or r.places (i + 1) 0) (get_or r.limits i 0) h u (j.each_limit i b)
         | inr past ↦ (let over : length r.limits ≤ i = omega (arith, past, j.limits_are) in omega (arith, get_or_past r.limits i 0 over))
       ];
       places = count;

@@ -6,12 +6,14 @@ use Rattle.rail_specs.specs.declared.StepNumbers.{StepNumbers}
 use Rattle.rail_specs.specs.Rules.{no_step}
 use Rattle.rail_specs.specs.Step.{step_of_train}
 use Rattle.line_file.specs.declared.sections.Section.{Section}
+use Rattle.line_file.specs.LineText.{first_from}
 use Rattle.line_file.specs.Shape.{section_at, AreSections}
 use Rattle.train_file.specs.declared.train.Train.{Train}
 use Rattle.train_file.specs.Shape.{numbers_of}
 use Rattle.joined_rules.specs.declared.setup.Stretch.{Stretch}
-use Rattle.joined_rules.specs.Joined.{LiesIn, IsLeastLimit, IsStepOf, Meets}
-use Rattle.joined_rules.specs.JoinedParts.{AreRows, AreValues, AreLowered, IsLowered, Rising}
+use Rattle.joined_rules.specs.Joined.{LiesIn, IsLeastLimit, IsStepOf}
+use Rattle.joined_rules.specs.JoinedParts.{AreCut, AreRows, AreValues, IsFirstUnder, IsLeastFrom, IsLowered, Rising}
+use Rattle.joined_rules.proofs.JoinedRising.{places_not_above}
 
 -- a section begins at or above the end of each earlier one
 later_section : (low high : ℤ) (sections : List Section) → AreSections low high sections → (i j : ℕ) → i < j → j < length sections → (section_at sections i).to ≤ (section_at sections j).from
@@ -24,42 +26,45 @@ later_section low high sections h i (suc j) l m =
       | inr ne ↦ omega (arith, from, (h.each j (omega (arith, m))).long, later_section low high sections h i j (omega arith) (omega (arith, m)))
     ]
 
--- only the section in which a step lies meets it
-only_section : (low high : ℤ) (sections : List Section) → AreSections low high sections → (s e k j : ℕ) → k < length sections → j < length sections →
-    (section_at sections k).from ≤ s → e ≤ (section_at sections k).to → Meets (section_at sections j).from (section_at sections j).to s e → j ≡ k
-only_section low high sections h s e k j l m from to meets = elim (cases_lt j k) [
-  | inl b ↦ absurd (omega (arith, later_section low high sections h j k b l, from, meets.1))
-  | inr g ↦ elim (cases_lt k j) [
-    | inl b ↦ absurd (omega (arith, later_section low high sections h k j b m, to, meets.0))
-    | inr o ↦ omega (arith, g, o)
-  ]
+-- sections begin and end at or above each earlier one's start and end
+pub starts_rise : (low high : ℤ) (sections : List Section) → AreSections low high sections → (i j : ℕ) → i ≤ j → j < length sections → (section_at sections i).from ≤ (section_at sections j).from
+starts_rise low high sections h i j l m = elim (cases_lt i j) [
+  | inl b ↦ omega (arith, later_section low high sections h i j b m, (h.each i (omega (arith, b, m))).long)
+  | inr g ↦ (let e : i ≡ j = omega (arith, l, g) in let same : (section_at sections i).from ≡ (section_at sections j).from = ap (λ (k : ℕ). (section_at sections k).from) e in omega (arith, same))
+]
+
+ends_rise : (low high : ℤ) (sections : List Section) → AreSections low high sections → (i j : ℕ) → i ≤ j → j < length sections → (section_at sections i).to ≤ (section_at sections j).to
+ends_rise low high sections h i j l m = elim (cases_lt i j) [
+  | inl b ↦ omega (arith, later_section low high sections h i j b m, (h.each j m).long)
+  | inr g ↦ (let e : i ≡ j = omega (arith, l, g) in let same : (section_at sections i).to ≡ (section_at sections j).to = ap (λ (k : ℕ). (section_at sections k).to) e in omega (arith, same))
+]
+
+-- the first section that the tail hasn't left begins at or behind the head
+pub first_begun : (sections : List Section) (places : List ℕ) (metres i k : ℕ) → AreCut sections places → i < length places → IsFirstUnder sections metres (get_or places i 0) k →
+    (section_at sections k).from ≤ get_or places i 0
+first_begun sections places metres i k cut l first = elim (cases_eq k 0) [
+  | inl e ↦ (let same : (section_at sections k).from ≡ first_from sections = ap (λ (j : ℕ). (section_at sections j).from) e in
+      omega (arith, same, cut.begun, places_not_above places cut.rising 0 i (omega arith) l))
+  | inr ne ↦ (let at : k - 1 + 1 ≡ k = omega (arith, ne) in
+      let from : (section_at sections k).from ≡ (section_at sections (k - 1)).to = subst (λ (j : ℕ). (section_at sections j).from ≡ (section_at sections (k - 1)).to) at (cut.follow (k - 1) (omega (arith, first.there, ne))) in
+      omega (arith, from, first.behind (k - 1) (omega (arith, ne))))
 ]
 
 -- the least limit of a step
-pub least : (sections : List Section) (stretches : List Stretch) → AreSections (pos 1) (pos 12000) sections → (s e b v : ℕ) (value : ℤ) → s < e →
-    LiesIn sections s e value → pos b ≡ value → IsLowered stretches s e b v → IsLeastLimit sections stretches s e v
-least sections stretches h s e b v value long lies same lowered =
-    let k = lies.0 in
-    let limit : pos b ≡ (section_at sections k).value = same ∙ lies.4 in
-    let meets : Meets (section_at sections k).from (section_at sections k).to s e = (omega (arith, lies.2, long), omega (arith, lies.3, long)) in
-    record {
-      of_sections = λ j l m.
-          let only : j ≡ k = only_section (pos 1) (pos 12000) sections h s e k j lies.1 l lies.2 lies.3 m in
-          subst (λ (i : ℕ). pos v ≤ℤ (section_at sections i).value) (sym only) (omega (arith, ints, limit, lowered.below));
-      of_stretches = lowered.each;
-      reached = elim lowered.reached [
-        | inl is ↦ inl (k, lies.1, meets, ap (λ (n : ℕ). pos n) is ∙ limit)
-        | inr other ↦ inr other
-      ];
-    }
-
-pub least_limits : (sections : List Section) (stretches : List Stretch) (places : List ℕ) (values : List ℤ) (limits : List ℕ) → AreSections (pos 1) (pos 12000) sections → Rising places →
-    AreValues sections places values → AreLowered stretches places values limits → (i : ℕ) → i < length limits →
-    IsLeastLimit sections stretches (get_or places i 0) (get_or places (i + 1) 0) (get_or limits i 0)
-least_limits sections stretches places values limits h rising a c i l =
-    let w = c.each i l in
-    let there : i < length values = omega (arith, l, c.count) in
-    least sections stretches h (get_or places i 0) (get_or places (i + 1) 0) w.0 (get_or limits i 0) (get_or values i (pos 0)) (rising i (omega (arith, there, a.count))) (a.each i there) w.1 w.2
+pub least : (sections : List Section) (stretches : List Stretch) (metres s e k b v : ℕ) → AreSections (pos 1) (pos 12000) sections →
+    IsFirstUnder sections metres s k → IsLeastFrom sections k e b → IsLowered stretches metres s e b v → IsLeastLimit sections stretches metres s e v
+least sections stretches metres s e k b v h first from lowered = record {
+  of_sections = λ j l m.
+      let after : k ≤ j = elim (cases_lt j k) [ inl early ↦ absurd (omega (arith, first.behind j early, m.1)) | inr g ↦ g ] in
+      omega (arith, ints, lowered.below, from.below j after l m.0);
+  of_stretches = lowered.each;
+  reached = elim lowered.reached [
+    | inl is ↦ (let j = from.reached.0 in
+        let out : (section_at sections k).to ≤ (section_at sections j).to = ends_rise (pos 1) (pos 12000) sections h k j from.reached.1 from.reached.2 in
+        inl (j, from.reached.2, (from.reached.3, omega (arith, first.under, out)), ap (λ (n : ℕ). pos n) is ∙ from.reached.4))
+    | inr other ↦ inr other
+  ];
+}
 
 -- a section's value is in the sections' range
 pub value_low : (low high : ℤ) (sections : List Section) → AreSections low high sections → (s e : ℕ) (v : ℤ) → LiesIn sections s e v → low ≤ℤ v

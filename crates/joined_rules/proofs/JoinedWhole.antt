@@ -12,13 +12,14 @@ use Rattle.joined_rules.specs.Joined.{IsJoined, IsSetup, AreTimings, marks_of, l
 use Rattle.joined_rules.specs.JoinedParts.{IsLayout, IsCourse, AreTimes}
 use Rattle.joined_rules.proofs.JoinedGrid.{first_is}
 
--- the rules of a start speed, a top speed, two tables, a layout, a course and times
-abbrev pub rules_from : ℕ → ℕ → List ℕ → List ℕ → Layout → Course → Times → Rules
-rules_from start top traction brake l c t = record {
+-- the rules of a start speed, a top speed, two tables, a length of the train, a layout, a course and times
+abbrev pub rules_from : ℕ → ℕ → List ℕ → List ℕ → ℕ → Layout → Course → Times → Rules
+rules_from start top traction brake metres l c t = record {
   start = start;
   top = top;
   traction = traction;
   brake = brake;
+  train_length = metres;
   steps = c.rows.items;
   limits = c.limits.items;
   places = l.places.items;
@@ -31,7 +32,7 @@ rules_from start top traction brake l c t = record {
 pub joined_from : (line : Line) (train : Train) (service : Service) (setup : Setup) (top : ℕ) (traction brake : List ℕ) (l : Layout) (c : Course) (t : Times) →
     IsSetup service setup → top + 1 ≡ length train.traction → traction ≡ train.traction → brake ≡ train.brake →
     IsLayout line service setup l → IsCourse line train setup l.places.items c → AreTimes service.calls setup.clock l.places.items l.visits.items t →
-    IsJoined line train service setup (rules_from setup.speed top traction brake l c t)
+    IsJoined line train service setup (rules_from setup.speed top traction brake train.length l c t)
 joined_from line train service setup top traction brake l c t u top_is traction_is brake_is lay course times =
     let visits = lay.stops_are.visits_are in
     record {
@@ -40,6 +41,7 @@ joined_from line train service setup top traction brake l c t u top_is traction_
       top_is = top_is;
       traction_is = traction_is;
       brake_is = brake_is;
+      length_is = refl;
       steps_are = sym course.count;
       each_step = course.each_step;
       limits_are = course.limits_count;

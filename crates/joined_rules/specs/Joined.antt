@@ -68,19 +68,27 @@ LiesIn sections s e v =
     (k : ℕ) × (k < length sections) × ((section_at sections k).from ≤ s) × (e ≤ (section_at sections k).to)
     × (v ≡ (section_at sections k).value)
 
--- a stretch from f to t meets a step from s to e: they share more than an end
-abbrev pub Meets : ℕ → ℕ → ℕ → ℕ → Type 0
-Meets f t s e = (f < e) × (s < t)
+-- a stretch from f to t meets a train of so many metres on the step from s to e: the stretch begins before the step's end, and the train's
+-- tail hasn't left it when the head is at the step's start
+abbrev pub Meets : ℕ → ℕ → ℕ → ℕ → ℕ → Type 0
+Meets metres f t s e = (f < e) × (s < t + metres)
 
--- v is the least limit of the sections and of the stretches that meet the step from s to e
-pub record IsLeastLimit (sections : List Section) (stretches : List Stretch) (s e v : ℕ) : Type 0 where
-  pub of_sections : (k : ℕ) → k < length sections → Meets (section_at sections k).from (section_at sections k).to s e →
-      pos v ≤ℤ (section_at sections k).value
-  pub of_stretches : (k : ℕ) → k < length stretches → Meets (stretch_at stretches k).from (stretch_at stretches k).to s e →
-      v ≤ (stretch_at stretches k).limit
+-- a section meets the train on the step
+abbrev pub MeetsSection : ℕ → Section → ℕ → ℕ → Type 0
+MeetsSection metres section s e = Meets metres section.from section.to s e
+
+-- a stretch with a lower limit meets the train on the step
+abbrev pub MeetsStretch : ℕ → Stretch → ℕ → ℕ → Type 0
+MeetsStretch metres stretch s e = Meets metres stretch.from stretch.to s e
+
+-- v is the least limit of the sections and of the stretches that meet a train of so many metres on the step from s to e, also of those
+-- that end before the place from which the train goes on
+pub record IsLeastLimit (sections : List Section) (stretches : List Stretch) (metres s e v : ℕ) : Type 0 where
+  pub of_sections : (k : ℕ) → k < length sections → MeetsSection metres (section_at sections k) s e → pos v ≤ℤ (section_at sections k).value
+  pub of_stretches : (k : ℕ) → k < length stretches → MeetsStretch metres (stretch_at stretches k) s e → v ≤ (stretch_at stretches k).limit
   pub reached :
-      ((k : ℕ) × (k < length sections) × Meets (section_at sections k).from (section_at sections k).to s e × (pos v ≡ (section_at sections k).value))
-      ⊎ ((k : ℕ) × (k < length stretches) × Meets (stretch_at stretches k).from (stretch_at stretches k).to s e × (v ≡ (stretch_at stretches k).limit))
+      ((k : ℕ) × (k < length sections) × MeetsSection metres (section_at sections k) s e × (pos v ≡ (section_at sections k).value))
+      ⊎ ((k : ℕ) × (k < length stretches) × MeetsStretch metres (stretch_at stretches k) s e × (v ≡ (stretch_at stretches k).limit))
 
 -- the numbers of the step from s to e of a train: the train's own, the step's length, and the gradient of the section in which it lies
 pub record IsStepOf (train : Train) (gradients : List Section) (s e : ℕ) (n : StepNumbers) : Type 0 where
@@ -145,12 +153,13 @@ pub record IsJoined (line : Line) (train : Train) (service : Service) (setup : S
   pub top_is : r.top + 1 ≡ length train.traction
   pub traction_is : r.traction ≡ train.traction
   pub brake_is : r.brake ≡ train.brake
+  pub length_is : r.train_length ≡ train.length
   pub steps_are : length r.places ≡ length r.steps + 1
   pub each_step : (i : ℕ) → i < length r.steps →
       IsStepOf train line.gradients (slice_index r.places i) (slice_index r.places (i + 1)) (step_at r i)
   pub limits_are : length r.limits ≡ length r.steps
   pub each_limit : (i : ℕ) → i < length r.steps →
-      IsLeastLimit line.limits setup.stretches (slice_index r.places i) (slice_index r.places (i + 1)) (slice_index r.limits i)
+      IsLeastLimit line.limits setup.stretches train.length (slice_index r.places i) (slice_index r.places (i + 1)) (slice_index r.limits i)
   pub stops_are : length r.stops ≡ length r.places
   pub dwells_are : length r.dwells ≡ length r.places
   pub each_point : (k : ℕ) → k < length r.places → IsPointOf service.calls r.places k (is_stop r k) (slice_index r.dwells k)

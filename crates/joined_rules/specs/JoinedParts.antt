@@ -1,5 +1,5 @@
 -- What the parts of the joined rules are, as they are made one after another.
-use Rattle.std.specs.Prelude.{ℕ, ◌+◌, ◌-◌, ◌<◌, ◌≤◌, ◌≡◌, ◌⊎◌, ℤ, pos, Bool, true, false, Result, Ok, Err, List, Contains, length, slice_index, slice_index_or}
+use Rattle.std.specs.Prelude.{ℕ, ◌+◌, ◌-◌, ◌<◌, ◌≤◌, ◌≡◌, ◌⊎◌, ℤ, pos, ◌≤ℤ◌, Bool, true, false, Result, Ok, Err, List, Contains, length, slice_index, slice_index_or}
 use Rattle.std.specs.Int.RustNames.{unsigned_abs}
 use Rattle.rail_specs.specs.declared.StepNumbers.{StepNumbers}
 use Rattle.rail_specs.specs.Rules.{no_step}
@@ -21,7 +21,7 @@ use Rattle.joined_rules.specs.declared.setup.Setup.{Setup}
 use Rattle.joined_rules.specs.declared.layout.Layout.{Layout}
 use Rattle.joined_rules.specs.declared.course.Course.{Course}
 use Rattle.joined_rules.specs.declared.times.Times.{Times}
-use Rattle.joined_rules.specs.Joined.{stretch_at, Meets, LiesIn, IsCallAt, IsTooGreat, IsFirst, IsAccepted, IsStepOf, IsLeastLimit, IsTooClose, is_stop_call, dwell_of, AreTimings, marks_of, last_place}
+use Rattle.joined_rules.specs.Joined.{stretch_at, MeetsStretch, LiesIn, IsCallAt, IsTooGreat, IsFirst, IsAccepted, IsStepOf, IsLeastLimit, IsTooClose, is_stop_call, dwell_of, AreTimings, marks_of, last_place}
 
 -- each place lies above the one before it
 abbrev pub Rising : List ℕ → Type 0
@@ -48,19 +48,28 @@ pub record AreValues (sections : List Section) (places : List ℕ) (values : Lis
   pub each : (i : ℕ) → i < length values →
       LiesIn sections (slice_index places i) (slice_index places (i + 1)) (slice_index_or values i (pos 0))
 
--- v is the least of a limit and of the limits of the stretches that meet the step from s to e
-pub record IsLowered (stretches : List Stretch) (s e limit v : ℕ) : Type 0 where
+-- v is the least of a limit and of the limits of the stretches that meet a train of so many metres on the step from s to e
+pub record IsLowered (stretches : List Stretch) (metres s e limit v : ℕ) : Type 0 where
   pub below : v ≤ limit
-  pub each : (k : ℕ) → k < length stretches → Meets (stretch_at stretches k).from (stretch_at stretches k).to s e →
-      v ≤ (stretch_at stretches k).limit
-  pub reached : (v ≡ limit)
-      ⊎ ((k : ℕ) × (k < length stretches) × Meets (stretch_at stretches k).from (stretch_at stretches k).to s e × (v ≡ (stretch_at stretches k).limit))
+  pub each : (k : ℕ) → k < length stretches → MeetsStretch metres (stretch_at stretches k) s e → v ≤ (stretch_at stretches k).limit
+  pub reached : (v ≡ limit) ⊎ ((k : ℕ) × (k < length stretches) × MeetsStretch metres (stretch_at stretches k) s e × (v ≡ (stretch_at stretches k).limit))
 
--- for each step the limit of its section, lowered by the stretches that meet the step
-pub record AreLowered (stretches : List Stretch) (places : List ℕ) (values : List ℤ) (limits : List ℕ) : Type 0 where
-  pub count : length limits ≡ length values
-  pub each : (i : ℕ) → i < length limits → (b : ℕ) × (pos b ≡ slice_index_or values i (pos 0))
-      × IsLowered stretches (slice_index places i) (slice_index places (i + 1)) b (slice_index limits i)
+-- v is the least limit of the sections from that of index first on that begin before the end of a step
+pub record IsLeastFrom (sections : List Section) (first e v : ℕ) : Type 0 where
+  pub below : (k : ℕ) → first ≤ k → k < length sections → (section_at sections k).from < e → pos v ≤ℤ (section_at sections k).value
+  pub reached : (k : ℕ) × (first ≤ k) × (k < length sections) × ((section_at sections k).from < e) × (pos v ≡ (section_at sections k).value)
+
+-- the section of index k is the first whose end the tail of a train of so many metres hasn't left when its head is at a place
+pub record IsFirstUnder (sections : List Section) (metres place k : ℕ) : Type 0 where
+  pub there : k < length sections
+  pub under : place < (section_at sections k).to + metres
+  pub behind : (j : ℕ) → j < k → (section_at sections j).to + metres ≤ place
+
+-- for each step the least limit of the sections and stretches that meet it
+pub record AreLimits (sections : List Section) (stretches : List Stretch) (metres : ℕ) (places limits : List ℕ) : Type 0 where
+  pub count : length limits + 1 ≡ length places
+  pub each : (i : ℕ) → i < length limits →
+      IsLeastLimit sections stretches metres (slice_index places i) (slice_index places (i + 1)) (slice_index limits i)
 
 -- calls lie at rising places
 abbrev pub CallsRise : List Call → Type 0
@@ -144,7 +153,7 @@ pub record IsCourse (line : Line) (train : Train) (setup : Setup) (places : List
   pub light : (i : ℕ) → i < length c.rows.items → IsTooGreat train places i → ⊥
   pub limits_count : length c.limits.items ≡ length c.rows.items
   pub each_limit : (i : ℕ) → i < length c.limits.items →
-      IsLeastLimit line.limits setup.stretches (slice_index places i) (slice_index places (i + 1)) (slice_index c.limits.items i)
+      IsLeastLimit line.limits setup.stretches train.length (slice_index places i) (slice_index places (i + 1)) (slice_index c.limits.items i)
 
 -- the dwells of the points, and the timing points
 pub record AreTimes (calls : List Call) (clock : ℕ) (places visits : List ℕ) (t : Times) : Type 0 where

@@ -47,7 +47,12 @@ pub(crate) fn course_over<L: Ledger>(
 {
     let gradients = values_of_steps(alloc, line.gradients.items(), places)?;
     let rows = rows_of_steps(alloc, train, &gradients, places, steps)?;
-    let values = values_of_steps(alloc, line.limits.items(), places)?;
-    let limits = limits_of_steps(alloc, &values, setup.stretches.items(), places)?;
+    let limits = limits_of_steps(
+        alloc,
+        line.limits.items(),
+        setup.stretches.items(),
+        train.length,
+        places,
+    )?;
     Ok(Course { rows, limits })
 }

@@ -34,8 +34,9 @@ use step_energy::Steps;
 use train_file::Train;
 
 /// The parts of the rules of a train that keeps to a service on a line from a setup on: the grid from the setup's place to the last call's,
-/// with the section's gradient and the least limit per step, the calls' stops and dwells per point, and their latest times in ms
-/// from the setup's clock on. Calls at or before the setup's place don't count.
+/// with the section's gradient and the least limit of what the train meets per step, the calls' stops and dwells per point, and their
+/// latest times in ms from the setup's clock on. Calls at or before the setup's place don't count. A limit holds until the train's tail has
+/// left its section or stretch, also where that ends before the setup's place; the gradient is that at the train's head.
 ///
 /// The first refusal in this order: `Outside` for the first call that isn't on the line; `TooManySteps` where there are more than
 /// 4,000 steps; `StopsTooClose` for the first call that is a stop next after another stop, or next after the start where the train
@@ -71,6 +72,7 @@ pub fn join<L: Ledger>(
         top: train.traction.top(),
         traction,
         brake,
+        train_length: train.length,
         rows: course.rows,
         limits: course.limits,
         places: layout.places,

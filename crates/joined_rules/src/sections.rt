@@ -1,9 +1,9 @@
 //! What the sections of a line and the stretches say of each step.
 
-ghost use Rattle.std.specs.Prelude.{◌≡◌, ◌+◌, ◌<◌, ◌≤◌, ℕ, pos, ◌≤ℤ◌, length, slice_index_or, IfOk};
+ghost use Rattle.std.specs.Prelude.{◌≡◌, ◌+◌, ◌<◌, ◌≤◌, ◌⊎◌, ℕ, pos, ◌≤ℤ◌, length, IfOk};
 ghost use Rattle.line_file.specs.LineText.{last_to};
-ghost use Rattle.line_file.specs.Shape.{section_at};
-ghost use Rattle.joined_rules.specs.JoinedParts.{Follow, AreCut, AreValues, IsLowered, AreLowered};
+ghost use Rattle.line_file.specs.Shape.{section_at, AreSections};
+ghost use Rattle.joined_rules.specs.JoinedParts.{Follow, AreCut, AreValues, AreLimits, IsFirstUnder, IsLeastFrom, IsLowered};
 
 use crate::setup::Stretch;
 use line_file::Section;
@@ -45,17 +45,20 @@ pub(crate) fn values_of_steps(
     Ok(values)
 }
 
-/// A limit, lowered by the stretches that meet the step from `start` to `end`.
-fn lowered(limit: u16, stretches: &[Stretch], start: u32, end: u32) -> u16
-    ensures { IsLowered stretches.now start end limit result }
+/// The first section from this one on whose end the train's tail hasn't left when its head is at the place.
+fn first_under(sections: &[Section], first: usize, metres: u32, place: u32) -> usize
+    requires sections { AreSections (pos 1) (pos 12000) sections.now }
+    requires there { first < length sections.now }
+    requires behind { (j : ℕ) → j < first → (section_at sections.now j).to + metres ≤ place }
+    requires ended { place < last_to sections.now }
+    requires short { metres ≤ 1000 }
+    ensures { IsFirstUnder sections.now metres place result }
 {
-    let mut least = limit;
-    for stretch in stretches {
-        if stretch.from < end && start < stretch.to && stretch.limit < least {
-            least = stretch.limit;
-        }
+    let mut k = first;
+    while sections[k].to + metres <= place {
+        k += 1;
     }
-    least
+    k
 }
 
 /// A limit of a line as a speed.
@@ -67,22 +70,69 @@ fn speed_of(limit: i32) -> u16
     limit as u16
 }
 
-/// For each step between two places, the limit of its section, lowered by the stretches that meet the step.
+/// The lesser of a speed and a limit of a line.
+fn lesser(speed: u16, limit: i32) -> u16
+    requires low { pos 1 ≤ℤ limit }
+    requires high { limit ≤ℤ pos 12000 }
+    ensures below { (result ≤ speed) × (pos result ≤ℤ limit) }
+    ensures reached { (result ≡ speed) ⊎ (pos result ≡ limit) }
+{
+    let other = speed_of(limit);
+    if other < speed { other } else { speed }
+}
+
+/// The least limit of the sections from this one on that begin before the end of a step.
+fn least_from(sections: &[Section], first: usize, end: u32) -> u16
+    requires sections { AreSections (pos 1) (pos 12000) sections.now }
+    requires there { first < length sections.now }
+    requires begun { (section_at sections.now first).from < end }
+    ensures { IsLeastFrom sections.now first end result }
+{
+    let mut least = speed_of(sections[first].value);
+    let mut k = first + 1;
+    while k < sections.len() && sections[k].from < end {
+        least = lesser(least, sections[k].value);
+        k += 1;
+    }
+    least
+}
+
+/// A limit, lowered by the stretches that meet a train of so many metres on the step from `start` to `end`.
+fn lowered(limit: u16, stretches: &[Stretch], metres: u32, start: u32, end: u32) -> u16
+    ensures { IsLowered stretches.now metres start end limit result }
+{
+    let mut least = limit;
+    for stretch in stretches {
+        let tail_out = stretch.to as u64 + metres as u64;
+        if stretch.from < end && (start as u64) < tail_out && stretch.limit < least {
+            least = stretch.limit;
+        }
+    }
+    least
+}
+
+/// For each step between two places, the least limit of the sections and stretches that meet a train of so many metres there. It goes over
+/// sections and steps together, and looks at those sections alone that a step meets.
 pub(crate) fn limits_of_steps(
     alloc: Global,
-    values: &[i32],
+    sections: &[Section],
     stretches: &[Stretch],
+    metres: u32,
     places: &[u32],
 ) -> Result<Vec<u16>, AllocError>
-    requires count { length values.now + 1 ≡ length places.now }
-    requires low { (i : ℕ) → i < length values.now → pos 1 ≤ℤ slice_index_or values.now i (pos 0) }
-    requires high { (i : ℕ) → i < length values.now → slice_index_or values.now i (pos 0) ≤ℤ pos 12000 }
-    ensures { IfOk result (λ limits. AreLowered stretches.now places.now values.now limits.items) }
+    requires sections { AreSections (pos 1) (pos 12000) sections.now }
+    requires cut { AreCut sections.now places.now }
+    requires short { metres ≤ 1000 }
+    requires some { 1 ≤ length places.now }
+    ensures { IfOk result (λ limits. AreLimits sections.now stretches.now metres places.now limits.items) }
 {
     let mut limits = Vec::new(alloc);
-    for i in 0..values.len() {
-        let limit = lowered(speed_of(values[i]), stretches, places[i], places[i + 1]);
-        limits.push(limit)?;
+    let mut k = 0;
+    for i in 1..places.len() {
+        let (start, end) = (places[i - 1], places[i]);
+        k = first_under(sections, k, metres, start);
+        let least = least_from(sections, k, end);
+        limits.push(lowered(least, stretches, metres, start, end))?;
     }
     Ok(limits)
 }

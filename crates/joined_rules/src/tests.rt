@@ -29,9 +29,10 @@ const NO_STRETCH: Stretch = Stretch {
     limit: 12_000,
 };
 
-/// A train with constant forces.
-fn train_with(alloc: Global, c: u32) -> Option<Train>
-    requires { c ≤ 10000000 }
+/// A train of so many metres with constant forces.
+fn train_with(alloc: Global, c: u32, metres: u32) -> Option<Train>
+    requires drag { c ≤ 10000000 }
+    requires short { metres ≤ 1000 }
     ensures { IfSome result IsTrain }
 {
     let traction = ForceTable::make(alloc, &[(0, 51_000), (1000, 51_000)]).ok()?;
@@ -39,11 +40,14 @@ fn train_with(alloc: Global, c: u32) -> Option<Train>
     traction.top();
     brake.top();
     Some(Train {
+        version: 1,
         mass: 1000,
         inertia: 1000,
         a: 1000,
         b: 0,
         c,
+        length: metres,
+        regeneration: 0,
         traction,
         brake,
     })
@@ -112,18 +116,20 @@ fn join_files(
     join_with::<Brand>(alloc, line, train, service, setup, Blank::new(1))
 }
 
-/// Joins two texts, a train with this drag and a setup.
+/// Joins two texts, a train with this drag and length, and a setup.
 fn join_texts(
     alloc: Global,
     line: &[u8],
     c: u32,
+    metres: u32,
     service: &[u8],
     place: u32,
     speed: u16,
     clock: u32,
     stretch: Stretch,
 ) -> Option<Result<Parts, RulesFault>>
-    requires { c ≤ 10000000 }
+    requires drag { c ≤ 10000000 }
+    requires short { metres ≤ 1000 }
 {
     let Ok(line) = read_line(alloc, line) else {
         return None;
@@ -131,7 +137,7 @@ fn join_texts(
     let Ok(service) = read_service(alloc, service) else {
         return None;
     };
-    let train = train_with(alloc, c)?;
+    let train = train_with(alloc, c, metres)?;
     let setup = setup_at(alloc, &service, place, speed, clock, stretch)?;
     let rules = join_files(alloc, &line, &train, &service, &setup);
     Some(rules)
@@ -161,7 +167,7 @@ fn has(
 #[test]
 fn joins_the_example(rt: HostRuntime) {
     let service: &[u8] = b"place,name,dwell,latest\n0,A,,\n200,B,,50\n";
-    let Some(Ok(rules)) = join_texts(rt.alloc(), LINE, 0, service, 0, 0, 0, NO_STRETCH) else {
+    let Some(Ok(rules)) = join_texts(rt.alloc(), LINE, 0, 0, service, 0, 0, 0, NO_STRETCH) else {
         panic!(rt; "the example cannot be joined");
     };
     assert!(rt;
@@ -186,7 +192,7 @@ fn joins_from_a_place_on(rt: HostRuntime) {
         to: 240,
         limit: 700,
     };
-    let Some(Ok(rules)) = join_texts(rt.alloc(), line, 0, service, 100, 900, 20, stretch) else {
+    let Some(Ok(rules)) = join_texts(rt.alloc(), line, 0, 0, service, 100, 900, 20, stretch) else {
         panic!(rt; "the example cannot be joined");
     };
     assert!(rt;
@@ -197,6 +203,33 @@ fn joins_from_a_place_on(rt: HostRuntime) {
             &[false, true, false, false, true],
             &[0, 30_000, 0, 0, 0],
             &[(1, 50_000), (4, 90_000)]
+        )
+    );
+}
+
+#[test]
+fn limits_hold_until_the_tail_is_out(rt: HostRuntime) {
+    let line: &[u8] =
+        b"kind,from,to,value\nlimit,0,50,9\nlimit,50,100,18\nlimit,100,600,36\ngradient,0,600,0\n";
+    let service: &[u8] = b"place,name,dwell,latest\n0,A,,\n600,B,,300\n";
+    let stretch = Stretch {
+        from: 130,
+        to: 160,
+        limit: 700,
+    };
+    let Some(Ok(rules)) = join_texts(rt.alloc(), line, 0, 150, service, 120, 900, 0, stretch) else {
+        panic!(rt; "the example cannot be joined");
+    };
+    // The tail leaves 50 at 200, 100 at 250 and 160 at 310.
+    assert!(rt; rules.train_length == 150);
+    assert!(rt;
+        has(
+            &rules,
+            &[120, 200, 300, 400, 500, 600],
+            &[250, 500, 700, 1000, 1000],
+            &[false, false, false, false, false, true],
+            &[0, 0, 0, 0, 0, 0],
+            &[(5, 300_000)]
         )
     );
 }
@@ -217,7 +250,17 @@ fn refuses_in_order(rt: HostRuntime) {
         (99_999, apart, 0, None),
     ];
     for (c, service, speed, wanted) in cases {
-        let fault = match join_texts(rt.alloc(), LONG_LINE, c, service, 0, speed, 0, NO_STRETCH) {
+        let fault = match join_texts(
+            rt.alloc(),
+            LONG_LINE,
+            c,
+            0,
+            service,
+            0,
+            speed,
+            0,
+            NO_STRETCH,
+        ) {
             Some(Ok(_)) => None,
             Some(Err(fault)) => Some(fault),
             None => Some(RulesFault::NoMemory),

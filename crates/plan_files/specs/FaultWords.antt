@@ -55,6 +55,8 @@ key_name key.Inertia = codes "inertia"
 key_name key.A = codes "a"
 key_name key.B = codes "b"
 key_name key.C = codes "c"
+key_name key.Length = codes "length"
+key_name key.Regeneration = codes "regeneration"
 key_name key.Traction = codes "traction"
 key_name key.Brake = codes "brake"
 

@@ -32,6 +32,8 @@ fn key_name(key: Key) -> &'static [u8]
         Key::A => b"a",
         Key::B => b"b",
         Key::C => b"c",
+        Key::Length => b"length",
+        Key::Regeneration => b"regeneration",
         Key::Traction => b"traction",
         Key::Brake => b"brake",
     }

@@ -2,7 +2,7 @@
 ghost use Rattle.std.specs.Prelude.{◌≡◌, ℕ, ◌≤◌, ◌^◌, ℤ, pos, negsuc, ◌≤ℤ◌, neg_ℤ};
 ghost use Rattle.std.specs.Int.{int_max};
 ghost use Rattle.std.specs.Int.RustNames.{unsigned_abs};
-ghost use Rattle.rail_specs.specs.Cost.{Grows, StaysWithin};
+ghost use Rattle.rail_specs.specs.Cost.{Grows, StaysWithin, given_back, regained_cost, traction_cost};
 
 /// A cost of a step's work, in 0.5 microjoule.
 pub trait StepCost {
@@ -37,5 +37,51 @@ impl StepCost for Traction {
 
     fn of(&self, work: i128) -> i128 {
         work.max(0)
+    }
+}
+
+/// The cost of a train whose brakes give back a share of their work: the work where it is positive, and else minus that share of
+/// its size, rounded down.
+#[derive(Clone, Copy)]
+pub struct Regained {
+    /// The share, per mille. A share above 1,000 counts as 1,000.
+    pub share: u16,
+}
+
+impl Regained {
+    /// The cost of a train that gets nothing back: that of traction alone. It takes no memory.
+    pub fn nothing() -> Regained
+        ensures share { result.share ≡ 0 }
+        ensures traction { (work : ℤ) → regained_cost result.share work ≡ traction_cost work }
+    {
+        Regained { share: 0 }
+    }
+}
+
+/// What braking gives back of work of this size.
+fn given_back(share: u16, size: u128) -> i128
+    requires { size ≤ 2 ^ 100 }
+    ensures { result ≡ pos (given_back share size) }
+{
+    let share = share.min(1000) as u128;
+    (share * size / 1000) as i128
+}
+
+impl StepCost for Regained {
+    ghost use Rattle.rail_specs.specs.Cost.{regained_cost};
+    ghost use Rattle.rail_base.specs.Cost.{Grows-regained_cost, StaysWithin-regained_cost};
+
+    ghost cost = { λ s. regained_cost s.share };
+
+    ghost grows = { λ s. Grows-regained_cost s.share };
+
+    ghost within = { λ s. StaysWithin-regained_cost s.share };
+
+    fn of(&self, work: i128) -> i128 {
+        if work >= 0 {
+            work
+        } else {
+            -given_back(self.share, work.unsigned_abs())
+        }
     }
 }

@@ -12,7 +12,7 @@ mod texts;
 
 pub use bound_specs::Cell;
 pub use cell_cost::CellCost;
-pub use cost::{StepCost, Traction};
+pub use cost::{Regained, StepCost, Traction};
 pub use gap::is_gap_met;
 pub use item_list::ItemList;
 pub use lines::{Fields, Lines, text_lines};

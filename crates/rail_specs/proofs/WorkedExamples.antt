@@ -6,7 +6,7 @@ use Rattle.rail_specs.specs.Step.{work, work_up, work_down, lower_time, upper_ti
 use Rattle.rail_specs.specs.Table.{force, top_speed}
 use Rattle.rail_specs.specs.Rules.{Rules}
 use Rattle.rail_specs.specs.Times.{arrival_up, arrival_down, slack_of}
-use Rattle.rail_specs.specs.Cost.{traction_cost, cost_of}
+use Rattle.rail_specs.specs.Cost.{traction_cost, regained_cost, cost_of}
 
 -- a level step of 100 m, driven by a train of 100 tonnes with a constant resistance of 1,000 N
 abbrev level : StepNumbers
@@ -67,6 +67,7 @@ run = record {
   top = 1000;
   traction = [];
   brake = [];
+  train_length = 0;
   steps = level ∷ level ∷ [];
   limits = 1000 ∷ 1000 ∷ [];
   places = 0 ∷ 100 ∷ 200 ∷ [];
@@ -92,3 +93,14 @@ cost_of-a_drive = refl
 
 traction_cost-of_braking : traction_cost (negsuc 4) ≡ pos 0
 traction_cost-of_braking = refl
+
+-- half of what the brakes take over the second step comes back: 6,600,000,000,000 less 3,100,000,000,000
+cost_of-a_drive_that_regains : cost_of (regained_cost 500) run (0 ∷ 800 ∷ 0 ∷ []) ≡ pos 3500000000000
+cost_of-a_drive_that_regains = refl
+
+-- three quarters of 5 are 3 and some more, which isn't given back
+regained_cost-rounds_down : regained_cost 750 (negsuc 4) ≡ negsuc 2
+regained_cost-rounds_down = refl
+
+regained_cost-of_no_more_than_all : regained_cost 60000 (negsuc 4) ≡ negsuc 4
+regained_cost-of_no_more_than_all = refl

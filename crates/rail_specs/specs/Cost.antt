@@ -1,5 +1,5 @@
 -- What work costs, what a drive costs, and bounds of that.
-use Rattle.std.specs.Prelude.{ℕ, suc, zero, ◌*◌, ◌≤◌, ℤ, pos, negsuc, ◌+ℤ◌, ◌-ℤ◌, ◌*ℤ◌, ◌≤ℤ◌, List, length}
+use Rattle.std.specs.Prelude.{ℕ, suc, zero, ◌*◌, ◌/◌, ◌≤◌, min, neg_ℤ, ℤ, pos, negsuc, ◌+ℤ◌, ◌-ℤ◌, ◌*ℤ◌, ◌≤ℤ◌, List, length}
 use Rattle.std.specs.Int.RustNames.{unsigned_abs}
 use Rattle.rail_specs.specs.Rules.{Rules, work_at, IsDrive}
 use Rattle.rail_specs.specs.Times.{IsOnTimeDown}
@@ -16,6 +16,15 @@ StaysWithin cost = (w : ℤ) → unsigned_abs (cost w) ≤ unsigned_abs w
 abbrev pub traction_cost : ℤ → ℤ
 traction_cost (pos n) = pos n
 traction_cost (negsuc n) = pos 0
+
+-- what braking gives back: a share, in per mille, of the size of its work, rounded down; a share above 1,000 counts as 1,000
+abbrev pub given_back : ℕ → ℕ → ℕ
+given_back share size = (min share 1000 * size) / 1000
+
+-- the energy of a train whose brakes give back a share of their work: the work where it is positive, and else minus what is given back
+abbrev pub regained_cost : ℕ → ℤ → ℤ
+regained_cost share (pos n) = pos n
+regained_cost share (negsuc n) = neg_ℤ (pos (given_back share (suc n)))
 
 -- f 0 + .. + f (n - 1)
 abbrev pub int_sum_below : (ℕ → ℤ) → ℕ → ℤ

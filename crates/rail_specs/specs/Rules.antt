@@ -14,6 +14,8 @@ pub record Rules : Type 0 where
   -- the greatest force at each speed from 0 to the top, N
   pub traction : List ℕ
   pub brake : List ℕ
+  -- how long the train is, in metres: each limit holds until its tail has left the limit's section
+  pub train_length : ℕ
   -- for each step: its numbers, and its speed limit in cm/s
   pub steps : List StepNumbers
   pub limits : List ℕ

@@ -26,6 +26,7 @@ rules : rules_of_text (heading ++ codes "step 100 0 900\nstep 200 0 800\nend\n")
   top = 3;
   traction = 51000 ∷ 51000 ∷ 51000 ∷ 51000 ∷ [];
   brake = 100000 ∷ 100000 ∷ 100000 ∷ 100000 ∷ [];
+  train_length = 0;
   steps = record { mass = 1000; inertia = 1000; a = 1000; b = 0; c = 0; metres = 100; gradient = pos 0 } ∷ record { mass = 1000; inertia = 1000; a = 1000; b = 0; c = 0; metres = 200; gradient = pos 0 } ∷ [];
   limits = 900 ∷ 800 ∷ [];
   places = 0 ∷ 100 ∷ 300 ∷ [];

@@ -142,6 +142,7 @@ shaped r h =
       brake_top = length-replicate (r.top + 1) r.brake;
       traction = constant_table r.top r.traction h.top.1 h.traction;
       brake = constant_table r.top r.brake h.top.1 h.brake;
+      short_train = omega arith;
       numbers = λ i l. step_in_range r i h (omega (arith, steps));
       small_drag = λ i l. step_light r i h (omega (arith, steps));
       limits = length-map r.steps (λ s. s.limit) ∙ sym steps;

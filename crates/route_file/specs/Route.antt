@@ -209,6 +209,7 @@ rules_of_route r =
       top = r.top;
       traction = replicate (r.top + 1) r.traction;
       brake = replicate (r.top + 1) r.brake;
+      train_length = 0;
       steps = map (step_numbers r.train) r.steps;
       limits = map (λ s. s.limit) r.steps;
       places = 0 ∷ ends_from 0 (map (λ s. s.metres) r.steps);

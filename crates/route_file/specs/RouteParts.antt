@@ -104,6 +104,7 @@ rules_with h lists =
       top = h.top;
       traction = replicate (h.top + 1) h.traction;
       brake = replicate (h.top + 1) h.brake;
+      train_length = 0;
       steps = lists.rows.items;
       limits = lists.limits.items;
       places = lists.places.items;

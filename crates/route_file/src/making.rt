@@ -56,6 +56,7 @@ pub(crate) fn make_parts(
         top: heading.top,
         traction,
         brake,
+        train_length: 0,
         rows,
         limits,
         places,

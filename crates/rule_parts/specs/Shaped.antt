@@ -14,6 +14,7 @@ rules_of p = record {
   top = p.top;
   traction = p.traction;
   brake = p.brake;
+  train_length = p.train_length;
   steps = p.rows.items;
   limits = p.limits.items;
   places = p.places.items;
@@ -36,6 +37,7 @@ pub record IsShaped (r : Rules) : Type 0 where
   pub brake_top : length r.brake ≡ r.top + 1
   pub traction : IsForceTable r.traction
   pub brake : IsForceTable r.brake
+  pub short_train : r.train_length ≤ 1000
   pub numbers : (i : ℕ) → i < length r.steps → IsInRange (step_at r i)
   pub small_drag : (i : ℕ) → i < length r.steps → HasSmallDrag (step_at r i)
   pub limits : length r.limits ≡ length r.steps

@@ -22,6 +22,8 @@ pub struct Parts {
     pub traction: ForceTable,
     /// The greatest brake force by speed.
     pub brake: ForceTable,
+    /// How long the train is, m, at most 1,000.
+    pub train_length: u32,
     /// Per step: its row.
     pub rows: Vec<StepRow>,
     /// Per step: its speed limit, cm/s.
@@ -46,6 +48,7 @@ impl Parts {
             top: self.top,
             traction: self.traction.copy(alloc)?,
             brake: self.brake.copy(alloc)?,
+            train_length: self.train_length,
             rows: Vec::from_slice(alloc, &self.rows)?,
             limits: Vec::from_slice(alloc, &self.limits)?,
             places: Vec::from_slice(alloc, &self.places)?,

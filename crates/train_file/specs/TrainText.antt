@@ -48,6 +48,11 @@ abbrev pub whole_or : Key → ℕ → ℕ → ℕ → Option Data → Result ℕ
 whole_or k low high other None = Ok other
 whole_or k low high other (Some d) = whole_of k low high d
 
+-- the share of its work that braking gives back, per mille: in version 2 what its key holds, which is needed there; in version 1 the key is
+-- passed over, and nothing is given back
+abbrev pub regeneration_at : ℕ → Option Data → Result ℕ TrainFault
+regeneration_at version held = if version == 2 then whole_at key.Regeneration 0 1000 held else Ok 0
+
 -- two integers
 abbrev pub both : Option ℤ → Option ℤ → Option (ℤ × ℤ)
 both None second = None
@@ -121,15 +126,28 @@ with_equal_tops train = if length train.traction == length train.brake then Ok t
 -- the train of a table's members, key by key; other keys are passed over
 abbrev pub train_in : Members → Result Train TrainFault
 train_in ms =
-    after (whole_or key.Version 1 1 1 (get_member (codes "version") ms)) (λ _.
+    after (whole_or key.Version 1 2 1 (get_member (codes "version") ms)) (λ version.
     after (whole_at key.Mass 1 100000 (get_member (codes "mass") ms)) (λ mass.
     after (whole_at key.Inertia 1 120000 (get_member (codes "inertia") ms)) (λ inertia.
     after (whole_at key.A 0 10000000 (get_member (codes "a") ms)) (λ a.
     after (whole_at key.B 0 10000000 (get_member (codes "b") ms)) (λ b.
     after (whole_at key.C 0 10000000 (get_member (codes "c") ms)) (λ c.
+    after (whole_or key.Length 0 1000 0 (get_member (codes "length") ms)) (λ metres.
+    after (regeneration_at version (get_member (codes "regeneration") ms)) (λ regeneration.
     after (forces_at key.Traction (get_member (codes "traction") ms)) (λ traction.
     after (forces_at key.Brake (get_member (codes "brake") ms)) (λ brake.
-    with_equal_tops (record { mass = mass; inertia = inertia; a = a; b = b; c = c; traction = traction; brake = brake })))))))))
+    with_equal_tops (record {
+      version = version;
+      mass = mass;
+      inertia = inertia;
+      a = a;
+      b = b;
+      c = c;
+      length = metres;
+      regeneration = regeneration;
+      traction = traction;
+      brake = brake;
+    })))))))))))
 
 -- the table of a text of bytes
 abbrev pub table_of : List ℕ → Option Members

@@ -5,7 +5,7 @@ use std::alloc::AllocError;
 /// The keys of a train file that are read, in the order in which their values are refused.
 #[derive(Clone, Copy, Debug, PartialEq, Eq)]
 pub enum Key {
-    /// `version`: the integer 1, which may be left out.
+    /// `version`: the integer 1 or 2; 1 where it is left out.
     Version,
     /// `mass`: an integer, 1/10 tonne.
     Mass,
@@ -17,6 +17,10 @@ pub enum Key {
     B,
     /// `c`: the part that grows with the square of speed, an integer, 1/1,000,000 N per (cm/s)^2.
     C,
+    /// `length`: an integer, m; 0 where it is left out.
+    Length,
+    /// `regeneration`: the share of its work that braking gives back, an integer, per mille. It is read in version 2 alone.
+    Regeneration,
     /// `traction`: rows of speed in cm/s and force in N.
     Traction,
     /// `brake`: rows of speed in cm/s and force in N.

@@ -40,17 +40,27 @@ fn refusal(alloc: Global, text: &[u8]) -> Option<TrainFault> {
 #[test]
 fn a_train_is_read(rt: HostRuntime) -> Result<(), Fail> {
     let alloc = rt.alloc();
-    let text = changed(alloc, 0, b"")?;
+    let text = changed(
+        alloc,
+        5,
+        b"c = 3\nlength = 400\nregeneration = 500\nversion = 2\n",
+    )?;
     let train = read_train(alloc, &text)?;
     let Train {
+        version,
         mass,
         inertia,
         a,
         b,
         c,
+        length,
+        regeneration,
         traction,
         brake,
     } = train.copy(alloc)?;
+    assert_eq!(rt; version, 2);
+    assert_eq!(rt; length, 400);
+    assert_eq!(rt; regeneration, 500);
     assert_eq!(rt; mass, 1000);
     assert_eq!(rt; inertia, 1100);
     assert_eq!(rt; a, 1000);
@@ -67,7 +77,7 @@ fn a_train_is_read(rt: HostRuntime) -> Result<(), Fail> {
 #[test]
 fn other_texts_are_accepted(rt: HostRuntime) -> Result<(), Fail> {
     let alloc = rt.alloc();
-    let table: [(usize, &[u8]); 8] = [
+    let table: [(usize, &[u8]); 10] = [
         (1, b"version = 1\nmass = 1000\n"),
         (1, b"# a comment\nname = \"x\"\nmass = 1_000\n"),
         (1, b"mass = 0x3E8\r\n"),
@@ -78,6 +88,8 @@ fn other_texts_are_accepted(rt: HostRuntime) -> Result<(), Fail> {
             b"brake = [[0, 0], [1, 0], [1000, 0]]\nregeneration = 1.5\n",
         ),
         (2, b"inertia = +120000\n"),
+        (5, b"c = 0\nlength = 1000\n"),
+        (1, b"version = 2\nregeneration = 0\nmass = 1000\n"),
         (5, b"c = 0\n"),
     ];
     for (n, new) in table {
@@ -117,14 +129,25 @@ fn each_key_is_needed(rt: HostRuntime) -> Result<(), Fail> {
 #[test]
 fn texts_and_kinds_are_refused(rt: HostRuntime) -> Result<(), Fail> {
     let alloc = rt.alloc();
-    let table: [(usize, &[u8], TrainFault); 16] = [
+    let table: [(usize, &[u8], TrainFault); 19] = [
         (1, b"mass =\n", TrainFault::Text),
         (1, b"mass = 1\nmass = 1\n", TrainFault::Text),
         (1, b"mass = 1 # \xFF\n", TrainFault::Text),
         (1, b"mass = 9223372036854775808\n", TrainFault::Text),
         (7, b"brake = [[0, 1]\n", TrainFault::Text),
-        (1, b"version = 2\n", TrainFault::OutOfRange(Key::Version)),
+        (1, b"version = 3\n", TrainFault::OutOfRange(Key::Version)),
         (1, b"version = \"1\"\n", TrainFault::WrongKind(Key::Version)),
+        (
+            5,
+            b"c = 0\nlength = 1.5\n",
+            TrainFault::WrongKind(Key::Length),
+        ),
+        (6, b"version = 2\n", TrainFault::Missing(Key::Regeneration)),
+        (
+            6,
+            b"version = 2\nregeneration = 1.5\n",
+            TrainFault::WrongKind(Key::Regeneration),
+        ),
         (1, b"mass = 1000.0\n", TrainFault::WrongKind(Key::Mass)),
         (
             2,
@@ -169,7 +192,7 @@ fn texts_and_kinds_are_refused(rt: HostRuntime) -> Result<(), Fail> {
 #[test]
 fn ranges_are_held(rt: HostRuntime) -> Result<(), Fail> {
     let alloc = rt.alloc();
-    let table: [(usize, &[u8], Option<Key>); 19] = [
+    let table: [(usize, &[u8], Option<Key>); 22] = [
         (1, b"mass = 0\n", Some(Key::Mass)),
         (1, b"mass = 1\n", None),
         (1, b"mass = 100000\n", None),
@@ -183,6 +206,13 @@ fn ranges_are_held(rt: HostRuntime) -> Result<(), Fail> {
         (4, b"b = 10000001\n", Some(Key::B)),
         (5, b"c = 10000000\n", None),
         (5, b"c = 10000001\n", Some(Key::C)),
+        (5, b"c = 0\nlength = 1001\n", Some(Key::Length)),
+        (5, b"c = 0\nlength = -1\n", Some(Key::Length)),
+        (
+            6,
+            b"version = 2\nregeneration = 1001\n",
+            Some(Key::Regeneration),
+        ),
         (6, b"traction = [[-1, 0]]\n", Some(Key::Traction)),
         (6, b"traction = [[0, 2000001]]\n", Some(Key::Traction)),
         (6, b"traction = [[0, 2000000], [1000, 0]]\n", None),

@@ -6,9 +6,12 @@ use force_table::ForceTable;
 use rail_specs::TrainNumbers;
 use std::alloc::{AllocError, Global};
 
-/// What a train is: its masses, its resistance A + B v + C v^2 (Davis), and its greatest forces by speed.
+/// What a train is: its masses, its resistance A + B v + C v^2 (Davis), its length, what its brakes give back, and its greatest
+/// forces by speed.
 #[derive(Drop)]
 pub struct Train {
+    /// The version of its file, 1 or 2. In version 2 a train says what its brakes give back.
+    pub version: u8,
     /// The mass, 1/10 tonne, 1 to 100,000.
     pub mass: u32,
     /// The mass with its rotating parts, 1/10 tonne, 1 to 120,000.
@@ -19,6 +22,10 @@ pub struct Train {
     pub b: u32,
     /// The part that grows with the square of speed, 1/1,000,000 N per (cm/s)^2, at most 10,000,000.
     pub c: u32,
+    /// The length, m, at most 1,000. Each limit holds until the train's tail has left the limit's section.
+    pub length: u32,
+    /// The share of its work that braking gives back, per mille, at most 1,000. In version 1 it is 0.
+    pub regeneration: u16,
     /// The greatest traction force by speed, N.
     pub traction: ForceTable,
     /// The greatest brake force by speed, N. Its top is that of the traction.
@@ -44,11 +51,14 @@ impl Train {
         ensures { IfOk result (λ train. train ≡ self.now) }
     {
         Ok(Train {
+            version: self.version,
             mass: self.mass,
             inertia: self.inertia,
             a: self.a,
             b: self.b,
             c: self.c,
+            length: self.length,
+            regeneration: self.regeneration,
             traction: self.traction.copy(alloc)?,
             brake: self.brake.copy(alloc)?,
         })

@@ -1,10 +1,10 @@
 //! What a key of a train file holds.
 
-ghost use Rattle.std.specs.Prelude.{◌≡◌, ◌≢◌};
+ghost use Rattle.std.specs.Prelude.{◌≡◌, ◌≢◌, ◌≤◌, IfOk, codes};
 ghost use Rattle.std.specs.Result.{result_map_both};
 ghost use Rattle.toml.specs.Data.{get_member};
 ghost use Rattle.toml.specs.View.{array_view, table_view, view};
-ghost use Rattle.train_file.specs.TrainText.{forces_at, of_kind, pair_of, pairs_of, present, row_of, rows_at, rows_of, table_refusal, whole_at, whole_in, whole_of, whole_or};
+ghost use Rattle.train_file.specs.TrainText.{forces_at, of_kind, pair_of, pairs_of, present, regeneration_at, row_of, rows_at, rows_of, table_refusal, whole_at, whole_in, whole_of, whole_or};
 
 use crate::fault::{Key, TrainFault};
 use force_table::{ForceTable, TableFault};
@@ -24,14 +24,16 @@ fn value_at<'a>(table: &'a Table, name: &str, key: Key) -> Result<&'a Value, Tra
 
 /// A number, if it is from `low` to `high`.
 fn whole_in(key: Key, low: u32, high: u32, number: i64) -> Result<u32, TrainFault>
-    ensures { result ≡ whole_in key low high number }
+    ensures value { result ≡ whole_in key low high number }
+    ensures in_range { IfOk result (λ n. (low ≤ n) × (n ≤ high)) }
 {
     natural_within(number, low, high).ok_or(TrainFault::OutOfRange(key))
 }
 
 /// The whole number from `low` to `high` that a value is.
 fn whole_of(key: Key, low: u32, high: u32, value: &Value) -> Result<u32, TrainFault>
-    ensures { result ≡ whole_of key low high (view value.now) }
+    ensures value { result ≡ whole_of key low high (view value.now) }
+    ensures in_range { IfOk result (λ n. (low ≤ n) × (n ≤ high)) }
 {
     match value.as_integer() {
         None => Err(TrainFault::WrongKind(key)),
@@ -47,7 +49,8 @@ pub(crate) fn read_whole(
     low: u32,
     high: u32,
 ) -> Result<u32, TrainFault>
-    ensures { result ≡ whole_at key low high (get_member name.now (table_view table.now)) }
+    ensures value { result ≡ whole_at key low high (get_member name.now (table_view table.now)) }
+    ensures in_range { IfOk result (λ n. (low ≤ n) × (n ≤ high)) }
 {
     let value = value_at(table, name, key)?;
     whole_of(key, low, high, value)
@@ -62,11 +65,38 @@ pub(crate) fn read_whole_or(
     high: u32,
     other: u32,
 ) -> Result<u32, TrainFault>
-    ensures { result ≡ whole_or key low high other (get_member name.now (table_view table.now)) }
+    requires low { low ≤ other }
+    requires high { other ≤ high }
+    ensures value { result ≡ whole_or key low high other (get_member name.now (table_view table.now)) }
+    ensures in_range { IfOk result (λ n. (low ≤ n) × (n ≤ high)) }
 {
     match table.get(name) {
         None => Ok(other),
         Some(value) => whole_of(key, low, high, value),
+    }
+}
+
+/// The version of a train file: what its key holds, or 1 where it is left out.
+pub(crate) fn read_version(table: &Table) -> Result<u8, TrainFault>
+    ensures value { result ≡ whole_or Key.Version 1 2 1 (get_member (codes "version") (table_view table.now)) }
+    ensures in_range { IfOk result (λ n. (1 ≤ n) × (n ≤ 2)) }
+{
+    let version = read_whole_or(table, "version", Key::Version, 1, 2, 1)?;
+    Ok(version as u8)
+}
+
+/// The share of its work that braking gives back, per mille: what its key holds in version 2, where it is needed, and 0 in version 1,
+/// where the key is passed over.
+pub(crate) fn read_regeneration(table: &Table, version: u8) -> Result<u16, TrainFault>
+    ensures value { result ≡ regeneration_at version (get_member (codes "regeneration") (table_view table.now)) }
+    ensures in_range { IfOk result (λ n. n ≤ 1000) }
+    ensures nothing { version ≡ 1 → IfOk result (λ n. n ≡ 0) }
+{
+    if version == 2 {
+        let share = read_whole(table, "regeneration", Key::Regeneration, 0, 1000)?;
+        Ok(share as u16)
+    } else {
+        Ok(0)
     }
 }
 

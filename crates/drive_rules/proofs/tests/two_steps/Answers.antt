@@ -17,6 +17,7 @@ pair_of n t b latest = record {
   top = 1000;
   traction = t;
   brake = b;
+  train_length = 0;
   steps = n ∷ n ∷ [];
   limits = 1000 ∷ 1000 ∷ [];
   places = 0 ∷ 100 ∷ 200 ∷ [];
@@ -63,6 +64,7 @@ shaped_pair n t b latest range drag metres ft fb lt lb early = record {
   brake_top = lb;
   traction = ft;
   brake = fb;
+  short_train = omega arith;
   numbers = below_two _ range range;
   small_drag = below_two _ drag drag;
   limits = refl;
@@ -86,13 +88,14 @@ shaped_pair n t b latest range drag metres ft fb lt lb early = record {
 -- rules with these parts are the pair
 pair_is : (r : Rules) (n : StepNumbers) (t b : List ℕ) (latest : ℤ) → r.start ≡ 0 → r.top ≡ 1000 → r.traction ≡ t → r.brake ≡ b →
     r.steps ≡ n ∷ n ∷ [] → r.limits ≡ 1000 ∷ 1000 ∷ [] → r.places ≡ 0 ∷ 100 ∷ 200 ∷ [] → r.stops ≡ true ∷ false ∷ true ∷ [] →
-    r.dwells ≡ 0 ∷ 30000 ∷ 0 ∷ [] → r.timings ≡ (record { point = 2; latest = latest }) ∷ [] → IsShaped (pair_of n t b latest) → IsShaped r
-pair_is r n t b latest e0 e1 e2 e3 e4 e5 e6 e7 e8 e9 h =
+    r.dwells ≡ 0 ∷ 30000 ∷ 0 ∷ [] → r.timings ≡ (record { point = 2; latest = latest }) ∷ [] → r.train_length ≡ 0 → IsShaped (pair_of n t b latest) → IsShaped r
+pair_is r n t b latest e0 e1 e2 e3 e4 e5 e6 e7 e8 e9 e10 h =
     let same : r ≡ pair_of n t b latest = λ i. record {
       start = e0 i;
       top = e1 i;
       traction = e2 i;
       brake = e3 i;
+      train_length = e10 i;
       steps = e4 i;
       limits = e5 i;
       places = e6 i;
@@ -107,4 +110,4 @@ from_parts-requires c =
     let e : c.top-2.result ≡ 1000 = omega (arith, c.top-2.ensures.value, c.requires.traction) in
     let z : to_z w64 (of_z w64 c.args.latest) ≡ c.args.latest = omega (arith, ints, c.requires.latest) in
     let s = shaped_pair c.args.row c.args.traction c.args.brake c.args.latest c.laws.ensures.in_range c.laws.ensures.small_drag c.requires.metres c.top-2.ensures.table c.top.ensures.table c.requires.traction c.requires.brake c.requires.latest in
-    pair_is _ c.args.row c.args.traction c.args.brake c.args.latest refl e refl refl c.in_ok-from_slice.ensures.items c.in_ok-from_slice-2.ensures.items c.in_ok-from_slice-3.ensures.items c.in_ok-from_slice-4.ensures.items c.in_ok-from_slice-5.ensures.items (c.in_ok-from_slice-6.ensures.items ∙ ap (λ (x : ℤ). the_timing x ∷ []) z) s
+    pair_is _ c.args.row c.args.traction c.args.brake c.args.latest refl e refl refl c.in_ok-from_slice.ensures.items c.in_ok-from_slice-2.ensures.items c.in_ok-from_slice-3.ensures.items c.in_ok-from_slice-4.ensures.items c.in_ok-from_slice-5.ensures.items (c.in_ok-from_slice-6.ensures.items ∙ ap (λ (x : ℤ). the_timing x ∷ []) z) refl s

@@ -1,4 +1,4 @@
-use Rattle.std.proofs.Common.{arith, ℕ, ℤ, pos, to_z, of_z, ◌≡◌, ◌*◌, ◌≤◌, ◌^◌, ◌*ℤ◌, ◌-ℤ◌, ◌≤ℤ◌, IsTrue, ap, ◌∙◌}
+use Rattle.std.proofs.Common.{arith, ℤ, pos, to_z, of_z, ◌≡◌, ◌*◌, ◌≤◌, ◌^◌, ◌*ℤ◌, ◌-ℤ◌, ◌≤ℤ◌, IsTrue, ap, ◌∙◌}
 use mir.Syntax.{w128}
 use lib.Signed.{le_z}
 use Rattle.std.specs.Int.RustNames.{unsigned_abs}
