@@ -19,51 +19,24 @@ chosen_second p q true e = grind (arith, ints, e)
 chosen_second p q false e = omega (arith, ints)
 
 -- the lesser of two numbers is at most the first
-lesser_first : (p q : Option ℤ) → IsAtMost (lesser p q) p
+pub lesser_first : (p q : Option ℤ) → IsAtMost (lesser p q) p
 lesser_first p None = at_most-refl p
 lesser_first None (Some q) = tt
 lesser_first (Some p) (Some q) = chosen_first p q (int_le p q) refl
 
 -- the lesser of two numbers is at most the second
-lesser_second : (p q : Option ℤ) → IsAtMost (lesser p q) q
+pub lesser_second : (p q : Option ℤ) → IsAtMost (lesser p q) q
 lesser_second p None = tt
 lesser_second None (Some q) = at_most-refl (Some q)
 lesser_second (Some p) (Some q) = chosen_second p q (int_le p q) refl
 
 -- the lesser of two numbers is one of them
-lesser_one : (p q : Option ℤ) → (lesser p q ≡ p) ⊎ (lesser p q ≡ q)
+pub lesser_one : (p q : Option ℤ) → (lesser p q ≡ p) ⊎ (lesser p q ≡ q)
 lesser_one p None = inl refl
 lesser_one None (Some q) = inr refl
 lesser_one (Some p) (Some q) = elim (int_le p q) as
     (λ (b : Bool). (cond b (Some p) (Some q) ≡ Some p) ⊎ (cond b (Some p) (Some q) ≡ Some q))
     [ true ↦ inl refl | false ↦ inr refl ]
-
--- v is one of the first m of these numbers, where it is there
-abbrev IsOne : (ℕ → Option ℤ) → ℕ → Option ℤ → Type 0
-IsOne f m v = IfSome v (λ p. (c : ℕ) × (c < m) × (f c ≡ Some p))
-
--- one of the first m numbers is one of the first m + 1
-one_more : (f : ℕ → Option ℤ) (m : ℕ) (v : Option ℤ) → IsOne f m v → IsOne f (m + 1) v
-one_more f m None h = tt
-one_more f m (Some p) h = (h.0, omega (arith, h.1), h.2)
-
--- number m is one of the first m + 1
-one_itself : (f : ℕ → Option ℤ) (m : ℕ) (v : Option ℤ) → f m ≡ v → IsOne f (m + 1) v
-one_itself f m None e = tt
-one_itself f m (Some p) e = (m, omega arith, e)
-
--- the lesser of the least so far and the next number is the least of them all
-pub least_more : (f : ℕ → Option ℤ) (m : ℕ) (v w : Option ℤ) → IsLeastOf f m v → w ≡ lesser v (f m) → IsLeastOf f (m + 1) w
-least_more f m v w h e = subst (IsLeastOf f (m + 1)) (sym e) record {
-  attained = elim (lesser_one v (f m)) [
-    | inl first ↦ subst (IsOne f (m + 1)) (sym first) (one_more f m v h.attained)
-    | inr second ↦ subst (IsOne f (m + 1)) (sym second) (one_itself f m (f m) refl)
-  ];
-  below = λ c l. elim (cases_lt c m) [
-    | inl before ↦ at_most-trans (lesser v (f m)) v (f c) (lesser_first v (f m)) (h.below c before)
-    | inr at ↦ let is : m ≡ c = omega arith in subst (λ j. IsAtMost (lesser v (f m)) (f j)) is (lesser_second v (f m))
-  ];
-}
 
 -- the order of two numbers, as its test tells it
 int_le-false : (p q : ℤ) → q <ℤ p → int_le p q ≡ false

@@ -1,6 +1,7 @@
 pub mod BoundLemmas
 pub mod ChainLemmas
 pub mod CopyLemmas
+pub mod GroupLemmas
 pub mod LayoutLemmas
 pub mod LeastLemmas
 pub mod LinkLemmas

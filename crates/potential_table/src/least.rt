@@ -1,12 +1,12 @@
 //! Least chains of cells, by a table from the last point backwards.
-ghost use Rattle.std.specs.Prelude.{◌≡◌, ℕ, pos, ◌+◌, ◌<◌, ◌≤◌, ◌++◌, length, replicate, Some, None, IfOk, OnOk, slice_index};
+ghost use Rattle.std.specs.Prelude.{◌≡◌, ℕ, pos, ◌+◌, ◌<◌, ◌≤◌, ◌++◌, min, length, replicate, Some, None, IfSome, IfOk, OnOk, slice_index};
 ghost use Rattle.bound_specs.specs.Cells.{cells_of, IsCell};
 ghost use Rattle.bound_specs.specs.Chains.{plus, values_of, value_at, IsSmall, ArePotentials, WeakDuality};
 ghost use Rattle.potential_table.specs.Filling.{lesser, sum_found, value_in, value_from, AreCells, AreSmallFrom, IsSmallSum, IsLeastOf, AreStarts, IsFilled, AreLinked};
-ghost use Rattle.potential_table.specs.Ways.{by_way, AreLeastByWays, AreUsable};
+ghost use Rattle.potential_table.specs.Ways.{by_way, way_at, AreLeastByWays, IsUsable, AreUsable, StandsFor, AreGroups, IsLesserOf};
 
 use crate::table::Potentials;
-use crate::ways::{Way, read_ways};
+use crate::ways::{GROUP, Way, groups_of, read_ways};
 use rail_base::{Cell, CellCost};
 use speed_cells::Cells;
 use std::alloc::{AllocError, Global};
@@ -124,7 +124,15 @@ fn fill<K: CellCost>(
     read_ways(here.as_slice(), values, starts[cost.steps()], &mut ways)?;
     for i in (0..cost.steps()).rev() {
         read_cells(cells, i, &mut here)?;
-        fill_point(cost, i, here.as_slice(), ways.as_slice(), values, starts[i]);
+        fill_point(
+            alloc,
+            cost,
+            i,
+            here.as_slice(),
+            ways.as_slice(),
+            values,
+            starts[i],
+        )?;
         read_ways(here.as_slice(), values, starts[i], &mut ways)?;
     }
     Ok(())
@@ -145,43 +153,86 @@ fn read_cells(cells: &Cells, point: usize, list: &mut Vec<Cell>) -> Result<(), A
 
 /// Fills in the values of a point's cells, which begin at a place of the list, by the ways on from the next point.
 fn fill_point<K: CellCost>(
+    alloc: Global,
     cost: &K,
     i: usize,
     left: &[Cell],
     ways: &[Way],
     values: &mut [Option<i128>],
     start: usize,
-)
+) -> Result<(), AllocError>
     requires step { i < K.step_count cost.now }
     requires sound { K.is_sound cost.now }
     requires left { AreCells left.now }
     requires ways { AreUsable ways.now }
     requires inside { start + length left.now ≤ length values.old }
-    ensures filled { AreLeastByWays (K.low_cost cost.now) i left.now ways.now (value_from values.new start) }
-    ensures before { (j : ℕ) → j < start → value_in values.new j ≡ value_in values.old j }
-    ensures behind { (j : ℕ) → start + length left.now ≤ j → value_in values.new j ≡ value_in values.old j }
+    ensures filled { OnOk result (AreLeastByWays (K.low_cost cost.now) i left.now ways.now (value_from values.new start)) }
+    ensures before { OnOk result ((j : ℕ) → j < start → value_in values.new j ≡ value_in values.old j) }
+    ensures behind { OnOk result ((j : ℕ) → start + length left.now ≤ j → value_in values.new j ≡ value_in values.old j) }
 {
+    let groups = groups_of(alloc, ways)?;
     for a in 0..left.len() {
-        values[start + a] = least_by_ways(cost, i, left[a], ways);
+        values[start + a] = least_by_ways(cost, i, left[a], ways, groups.as_slice());
     }
+    Ok(())
 }
 
 /// What the least chain from a cell costs, by the ways on from the next point.
 ///
-/// The loop writes to no list, and the least sum is a plain number, so that what doesn't change from way to way can be kept at hand.
-fn least_by_ways<K: CellCost>(cost: &K, i: usize, cell: Cell, ways: &[Way]) -> Option<i128>
+/// A group of ways is passed over where the way that stands for it gives nothing less: a link to a larger cell costs no more than one to a
+/// cell inside it. Groups of fast cells come first, since ways that lead to less are found there.
+fn least_by_ways<K: CellCost>(
+    cost: &K,
+    i: usize,
+    cell: Cell,
+    ways: &[Way],
+    groups: &[Way],
+) -> Option<i128>
     requires step { i < K.step_count cost.now }
     requires sound { K.is_sound cost.now }
     requires cell { IsCell cell }
     requires ways { AreUsable ways.now }
+    requires groups { AreGroups groups.now ways.now }
     ensures { IsLeastOf (by_way (K.low_cost cost.now) i cell ways.now) (length ways.now) result }
 {
     let mut least = NO_SUM;
-    for j in 0..ways.len() {
+    for b in (0..groups.len()).rev() {
+        least = least_with_group(cost, i, cell, groups[b], ways, b * GROUP, least);
+    }
+    sum_found(least)
+}
+
+/// The lesser of the least sum so far and the least by a group's ways, which begin at a place of the list.
+///
+/// The loop writes to no list, and the least sum is a plain number, so that what doesn't change from way to way can be kept at hand.
+fn least_with_group<K: CellCost>(
+    cost: &K,
+    i: usize,
+    cell: Cell,
+    group: Way,
+    ways: &[Way],
+    start: usize,
+    begun: i128,
+) -> i128
+    requires step { i < K.step_count cost.now }
+    requires sound { K.is_sound cost.now }
+    requires cell { IsCell cell }
+    requires ways { AreUsable ways.now }
+    requires start { start < length ways.now }
+    requires group { IsUsable group }
+    requires each { (j : ℕ) → start ≤ j → j < start + 8 → j < length ways.now → StandsFor group (way_at ways.now j) }
+    requires begun { IfSome (sum_found begun) (λ p. (c : ℕ) × (c < length ways.now) × (by_way (K.low_cost cost.now) i cell ways.now c ≡ Some p)) }
+    ensures { IsLesserOf (by_way (K.low_cost cost.now) i cell ways.now) (length ways.now) (sum_found begun) start (min (start + 8) (length ways.now)) (sum_found result) }
+{
+    if least_with(begun, cost.low(i, cell, group.cell), group.beyond) >= begun {
+        return begun;
+    }
+    let mut least = begun;
+    for j in start..(start + GROUP).min(ways.len()) {
         let way = ways[j];
         least = least_with(least, cost.low(i, cell, way.cell), way.beyond);
     }
-    sum_found(least)
+    least
 }
 
 /// What stands for no sum in the search for the least: a number above every sum.

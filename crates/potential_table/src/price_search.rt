@@ -22,6 +22,9 @@ use time_multipliers::Prices;
 /// The greatest price of a ms, in 0.5 microjoule.
 const MOST_PRICE: u64 = 1 << 50;
 
+/// A price of a ms above what most trains ask for, in 0.5 microjoule: a power of 34 MW.
+const HIGH_PRICE: u64 = 1 << 36;
+
 /// Prices, the potentials of cells under them, and the chain value that the two give, in 0.5 microjoule: none where the start's cell
 /// has no chain.
 #[derive(Drop)]
@@ -146,14 +149,15 @@ fn sought<C: StepCost>(
     let mut sides = Sides {
         rising: None,
         falling: None,
-        width: MOST_PRICE,
+        room: 2 * MOST_PRICE,
     };
     while low < high {
-        let price = next_price(&sides, low, high);
+        let given = prices.values()[timing];
+        let price = next_price(&sides, given, low, high);
         let Some(tried) = tried_at(alloc, rules, cost, cells, prices, timing, price)? else {
             return Ok(low);
         };
-        sides = sides_with(&sides, tried, high - low);
+        sides = sides_with(&sides, tried);
         if tried.here < tried.above {
             low = price + 1;
         } else {
@@ -171,27 +175,30 @@ struct Tried {
     above: i128,
 }
 
-/// The last price at which the chain value still rose, the last one at which it didn't, and how wide the interval was before.
+/// The last price at which the chain value still rose, the last one at which it didn't, and how many prices the next try may leave.
+///
+/// The room is halved with each try, so that 52 tries always do: as many as both ends and then halves would take.
 #[derive(Clone, Copy)]
 struct Sides {
     rising: Option<Tried>,
     falling: Option<Tried>,
-    width: u64,
+    room: u64,
 }
 
-/// The sides after one more try, in an interval of this width.
-fn sides_with(sides: &Sides, tried: Tried, width: u64) -> Sides {
+/// The sides after one more try.
+fn sides_with(sides: &Sides, tried: Tried) -> Sides {
+    let room = (sides.room / 2).max(1);
     if tried.above > tried.here {
         Sides {
             rising: Some(tried),
             falling: sides.falling,
-            width,
+            room,
         }
     } else {
         Sides {
             rising: sides.rising,
             falling: Some(tried),
-            width,
+            room,
         }
     }
 }
@@ -250,24 +257,28 @@ fn value_with<C: StepCost>(
     Ok(found.value)
 }
 
-/// The price to be tried next, from `low` to `high - 1`: first both ends, then where the tangents of the two sides cross; the middle
-/// after a try that left more than half of the interval.
-fn next_price(sides: &Sides, low: u64, high: u64) -> u64
+/// The price to be tried next, from `low` to `high - 1`: the guess, moved so that no more prices are left than the room allows.
+fn next_price(sides: &Sides, given: u64, low: u64, high: u64) -> u64
     requires { low < high }
     ensures low { low ≤ result }
     ensures high { result < high }
 {
-    let (Some(rising), Some(falling)) = (sides.rising, sides.falling) else {
-        return if sides.rising.is_none() {
-            low
-        } else {
-            high - 1
-        };
-    };
-    if high - low > sides.width / 2 {
-        return low + (high - low) / 2;
+    guess(sides, given)
+        .max(high.saturating_sub(sides.room))
+        .min(low.saturating_add(sides.room).saturating_sub(1))
+        .max(low)
+        .min(high - 1)
+}
+
+/// A guess at the best price: first the price that is given, then one on its other side, a high one or one that is an eighth less; then where
+/// the tangents of the two sides cross.
+fn guess(sides: &Sides, given: u64) -> u64 {
+    match (sides.rising, sides.falling) {
+        (Some(rising), Some(falling)) => crossing(rising, falling),
+        (Some(rising), None) => rising.price.saturating_mul(2).max(HIGH_PRICE),
+        (None, Some(falling)) => falling.price - falling.price / 8,
+        (None, None) => given,
     }
-    crossing(rising, falling).max(low).min(high - 1)
 }
 
 /// Where the line through a rising try and the price above it crosses that of a falling one. It is a guess, so it may be rounded and

@@ -8,3 +8,6 @@
 mod rounds;
 
 pub use rounds::find_prices;
+
+#[cfg(test)]
+mod tests;

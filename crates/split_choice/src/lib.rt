@@ -11,3 +11,6 @@ mod choice;
 mod forward;
 
 pub use choice::{Choice, choose};
+
+#[cfg(test)]
+mod tests;

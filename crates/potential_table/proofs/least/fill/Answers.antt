@@ -70,12 +70,12 @@ loop-i-preserved g c =
     let least : AreLeastByWays low i (cells_of cells i) c.loop-i.ways.items (value_from new (get_or starts i 0)) =
     subst (λ (ws : List Way). AreLeastByWays low i (cells_of cells i) ws (value_from new (get_or starts i 0))) c.as_slice-in-loop-i-2.ensures.value
     (subst (λ (cs : List Cell). AreLeastByWays low i cs c.as_slice-in-loop-i-2.result.now (value_from new (get_or starts i 0))) left
-    c.fill_point.ensures.filled) in
+    c.in_ok-fill_point.ensures.filled) in
     let here : (a : ℕ) → a < length (cells_of cells i) → IsLeastOf (through low i (cell_at cells i a) (cells_of cells (i + 1)) (value_from values (get_or starts (i + 1) 0))) (length (cells_of cells (i + 1))) (value_from new (get_or starts i 0) a) =
     λ a l. least_over_cells c.loop-i.ways.items (cells_of cells (i + 1)) (value_from values (get_or starts (i + 1) 0)) ways low i
     (get_or (cells_of cells i) a no_cell) (value_from new (get_or starts i 0) a) (least a l) in
     let behind : (j : ℕ) → get_or starts (i + 1) 0 ≤ j → get_or new j None ≡ get_or values j None =
-    λ j l. c.fill_point.ensures.behind j (omega (arith, l, c.requires.starts.next i (omega (arith, lt, c.requires.inside)), ap length left)) in
+    λ j l. c.in_ok-fill_point.ensures.behind j (omega (arith, l, c.requires.starts.next i (omega (arith, lt, c.requires.inside)), ap length left)) in
     record {
       filled = filled_more low cells starts c.requires.starts values new i n c.requires.inside lt here behind
           (subst (λ k. IsFilled low cells starts values k n) at c.loop-i.invariant.filled);

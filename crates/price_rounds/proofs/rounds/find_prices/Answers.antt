@@ -42,7 +42,7 @@ go_round-requires-clause-valued g c =
 pub returns-clause-valued : goal.returns-clause-valued
 returns-clause-valued g c =
     let found = c.in_ok-best.ensures in
-    valued_by (g.C.StepCost.cost c.args.cost.now) c.args.rules.now c.args.cells.now (length c.timings-timings.result.now - 1) found.alone.0 c.in_ok-gone.gone.prices c.in_ok-best.best
+    valued_by (g.C.StepCost.cost c.args.cost.now) c.args.rules.now c.args.cells.now _ found.alone.0 c.in_ok-gone.gone.prices c.in_ok-best.best
     c.in_ok-gone.ensures.valued.timings found.alone.2 found.potentials found.value found.small
 
 pub returns-clause-last : goal.returns-clause-last
