@@ -1,0 +1,11 @@
+pub mod Digits
+pub mod FieldLists
+pub mod PointLists
+pub mod Numerals
+pub mod Cuts
+pub mod ListLaws
+pub mod LineLaws
+pub mod PointLaws
+pub mod WholeLaws
+pub mod FieldTexts
+pub mod PartLaws
