@@ -1,8 +1,8 @@
 #!/bin/sh
 # The energies that the drive search finds on known lines, and its instructions. Needs rt, awk and valgrind.
 #
-# It builds a small program that reads line.csv, train.toml and service.csv where it runs, finds the best of the family and then searches from
-# it, and prints both energies. Each energy is held against the most that is allowed. The instructions are those of the search alone: the count
+# It builds a small program that reads a line, a train and a service, finds the best of the family and then searches from it, and prints
+# both energies. Each energy is held against the most that is allowed. The instructions are those of the search alone: the count
 # of the program that stops after the family is taken off.
 set -eu
 . "$(dirname "$0")/search_program.sh"
@@ -38,9 +38,9 @@ with_goals
 held "sample 1, four latest times" 1000 0.8190
 held "sample 1, four latest times" 100 0.6680
 for step in 100 10; do
-    without=$(counted "$step" family)
-    with=$(counted "$step" search)
-    /usr/bin/time -f %M -o "$work/memory" "$program" "$step" search >/dev/null
+    without=$(files | counted "$step" family)
+    with=$(files | counted "$step" search)
+    files | /usr/bin/time -f %M -o "$work/memory" "$program" "$step" search >/dev/null
     echo "sample 1, four latest times, step $step: $((with - without)) instructions of the search, $(tail -1 "$work/memory") kB in all"
 done
 exit "$failed"

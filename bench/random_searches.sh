@@ -39,7 +39,7 @@ first=${2:-1}
 last=$((first + ${1:-1000} - 1))
 for seed in $(seq "$first" "$last"); do
     step=$(random_run "$seed")
-    answer=$(timeout 60 "$program" "$step" search) || answer=ended
+    answer=$(files | timeout 60 "$program" "$step" search) || answer=ended
     echo "$seed $step $answer"
 done >"$work/answers"
 awk '{ kinds[$3]++ }

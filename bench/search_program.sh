@@ -1,4 +1,5 @@
-# Read by drive_search.sh and random_searches.sh: builds a program that searches for the drive of the three files where it runs. Needs rt.
+# Read by drive_search.sh and random_searches.sh: builds a program that searches for the drive of a line, a train and a service.
+# Needs rt.
 . "$(dirname "$0")/crate.sh"
 program=$work/crates/bench/out/bench
 mkdir -p "$work/run"
@@ -14,52 +15,73 @@ sample() { # the line and the service of the sample of this number
     printf 'place,name,dwell,latest\n0,S0,,\n10000,S1,30,\n20000,S2,30,\n30000,S3,30,\n40000,S4,,3600\n' >service.csv
 }
 
+files() { # the three files as one text, parted by a 0
+    cat line.csv
+    printf '\0'
+    cat train.toml
+    printf '\0'
+    cat service.csv
+}
+
 searched() { # what the program says at this step of metres: after the family, or after the search
-    "$program" "$1" "$2"
+    files | "$program" "$1" "$2"
 }
 
 cat >"$main" <<'RT'
-//! Finds the best of the family for the files where it runs, and searches from it.
+//! Finds the best of the family for a line, a train and a service on standard input, parted by a 0, and searches from it.
 #![tactic(auto)]
 
 ghost use Rattle.std.specs.Prelude.{◌≡◌, ◌<◌, ◌≤◌};
 
-use command_files::{File, FileList, Stage};
-use drive_rules::{Judged, Rules};
+use drive_rules::{Judged, Rules, Setup};
 use drive_search::search_drive;
-use edge_io::FileShelf;
+use line_file::{read_line, read_service};
 use phase_composer::{Costed, compose_with_cost};
-use plan_files::{LineFile, ServiceFile, TrainFile, fresh_rules};
 use rail_base::Traction;
 use std::alloc::{AllocError, Global};
 use std::env;
-use std::io;
+use std::io::{self, Read};
 use std::marker::Brand;
-use std::rt::{Env, Files};
 use std::sync::ledger::{Blank, Ledger};
 use step_energy::Steps;
+use train_file::read_train;
+
+/// What stands before the first 0, and what behind it.
+fn parted(text: &[u8]) -> (&[u8], &[u8]) {
+    for i in 0..text.len() {
+        if text[i] == 0 {
+            return (&text[..i], &text[i + 1..]);
+        }
+    }
+    (text, &[])
+}
 
 /// The rules of the three files at a step.
-fn rules_of<R: Env + Files + Print + AllocGlobal, L: Ledger>(rt: &R, blank: Blank, step: u32) -> Option<Rules>
+fn rules_of<L: Ledger>(alloc: Global, text: &[u8], step: u16, blank: Blank) -> Option<Rules>
     requires name { blank.name ≡ L.name }
     requires parts { blank.parts ≡ L.parts }
     requires some { 0 < L.parts }
+    requires step { (10 ≤ step) × (step ≤ 1000) }
 {
     let mut steps: Steps<L> = Steps::new(blank);
-    let mut shelf = FileShelf::new(rt.alloc(), rt);
-    let line = File { kind: LineFile, name: "line.csv" };
-    let train = File { kind: TrainFile, name: "train.toml" };
-    let service = File { kind: ServiceFile, name: "service.csv" };
-    match (line, (train, (service, ()))).read_all(rt.alloc(), &mut shelf, &mut steps) {
-        Ok(Stage::Read(said)) => {
-            let (line, train, service) = (&said.0, &said.1.0, &said.1.1.0);
-            match fresh_rules(rt.alloc(), line, train, service, step.max(10).min(1000), &mut steps) {
-                Ok(Stage::Read(rules)) => Some(rules),
-                _ => None,
-            }
-        }
-        _ => None,
-    }
+    let (line, rest) = parted(text);
+    let (train, service) = parted(rest);
+    let Ok(line) = read_line(alloc, line) else {
+        return None;
+    };
+    let Ok(train) = read_train(alloc, train) else {
+        return None;
+    };
+    let Ok(service) = read_service(alloc, service) else {
+        return None;
+    };
+    let setup = Setup::fresh(alloc, step, &service);
+    Rules::make(alloc, &line, &train, &service, &setup, &mut steps).ok()
+}
+
+/// The same with a counter of its own.
+fn rules(alloc: Global, text: &[u8], step: u16) -> Option<Rules> {
+    rules_of::<Brand>(alloc, text, step.max(10).min(1000), Blank::new(1))
 }
 
 /// What the best of the family costs, and what is found from it: none where there is no drive on time.
@@ -81,13 +103,15 @@ fn energies(alloc: Global, rules: &Rules, search: bool) -> Result<Option<(i128, 
 }
 
 fn main(rt: HostRuntime) -> io::Result<()> {
-    let mut step = 100;
+    let mut step: u16 = 100;
     let mut search = false;
     for word in env::args(&rt)? {
         search = word.as_str() == "search";
-        step = word.as_str().parse::<u32>().unwrap_or(step);
+        step = word.as_str().parse::<u16>().unwrap_or(step);
     }
-    let Some(rules) = rules_of::<HostRuntime, Brand>(&rt, Blank::new(1), step) else {
+    let mut text = Vec::new(rt.alloc());
+    rt.stdin().read_to_end(&mut text)?;
+    let Some(rules) = rules(rt.alloc(), text.as_slice(), step) else {
         return println!(rt; "refused");
     };
     match energies(rt.alloc(), &rules, search) {
@@ -97,10 +121,5 @@ fn main(rt: HostRuntime) -> io::Result<()> {
     }
 }
 RT
-proof main/Invariants.antt <<'ANTT'
-use Rattle.bench.proofs.main.Given as goal
-
-abbrev pub ghosts-rules_of : goal.ghosts-rules_of
-ghosts-rules_of a = record { name = a.blank.name; parts = a.blank.parts }
-ANTT
-build "drive_search rail_specs rail_base edge_io step_energy command_files plan_files drive_rules phase_composer" </dev/null
+proof_of_rules
+build "drive_search rail_specs rail_base step_energy line_file train_file joined_rules drive_rules phase_composer" </dev/null

@@ -14,3 +14,6 @@ mod search;
 mod taking;
 
 pub use taking::search_drive;
+
+#[cfg(test)]
+mod tests;
