@@ -1,0 +1,125 @@
+# Read by drive_search.sh and random_searches.sh: builds a program that searches for the drive of a line, a train and a service.
+# Needs rt.
+. "$(dirname "$0")/crate.sh"
+program=$work/crates/bench/out/bench
+mkdir -p "$work/run"
+cp "$top/examples/40km/train.toml" "$work/run/"
+
+sample() { # the line and the service of the sample of this number
+    awk -v n="$1" 'BEGIN {
+        x = n % 2147483648
+        for (k = 0; k < 84; k++) { d[k] = int(x / 65536); x = (1103515245 * (x % 65536) + 12345 + (1103515245 * int(x / 65536) % 32768) * 65536) % 2147483648 }
+        print "kind,from,to,value"
+        for (b = 0; b < 40; b++) print "limit," 1000 * b "," 1000 * (b + 1) "," 54 + 9 * (d[2 * b + 2] % 9)
+        for (b = 0; b < 40; b++) print "gradient," 1000 * b "," 1000 * (b + 1) "," d[2 * b + 1] % 101 - 50 }' >line.csv
+    printf 'place,name,dwell,latest\n0,S0,,\n10000,S1,30,\n20000,S2,30,\n30000,S3,30,\n40000,S4,,3600\n' >service.csv
+}
+
+files() { # the three files as one text, parted by a 0
+    cat line.csv
+    printf '\0'
+    cat train.toml
+    printf '\0'
+    cat service.csv
+}
+
+searched() { # what the program says at this step of metres: after the family, or after the search
+    files | "$program" "$1" "$2"
+}
+
+cat >"$main" <<'RT'
+//! Finds the best of the family for a line, a train and a service on standard input, parted by a 0, and searches from it.
+#![tactic(auto)]
+
+ghost use Rattle.std.specs.Prelude.{◌≡◌, ◌<◌, ◌≤◌};
+
+use drive_rules::{Judged, Rules, Setup};
+use drive_search::search_drive;
+use line_file::{read_line, read_service};
+use phase_composer::{Costed, compose_with_cost};
+use rail_base::Traction;
+use std::alloc::{AllocError, Global};
+use std::env;
+use std::io::{self, Read};
+use std::marker::Brand;
+use std::sync::ledger::{Blank, Ledger};
+use step_energy::Steps;
+use train_file::read_train;
+
+/// What stands before the first 0, and what behind it.
+fn parted(text: &[u8]) -> (&[u8], &[u8]) {
+    for i in 0..text.len() {
+        if text[i] == 0 {
+            return (&text[..i], &text[i + 1..]);
+        }
+    }
+    (text, &[])
+}
+
+/// The rules of the three files at a step.
+fn rules_of<L: Ledger>(alloc: Global, text: &[u8], step: u16, blank: Blank) -> Option<Rules>
+    requires name { blank.name ≡ L.name }
+    requires parts { blank.parts ≡ L.parts }
+    requires some { 0 < L.parts }
+    requires step { (10 ≤ step) × (step ≤ 1000) }
+{
+    let mut steps: Steps<L> = Steps::new(blank);
+    let (line, rest) = parted(text);
+    let (train, service) = parted(rest);
+    let Ok(line) = read_line(alloc, line) else {
+        return None;
+    };
+    let Ok(train) = read_train(alloc, train) else {
+        return None;
+    };
+    let Ok(service) = read_service(alloc, service) else {
+        return None;
+    };
+    let setup = Setup::fresh(alloc, step, &service);
+    Rules::make(alloc, &line, &train, &service, &setup, &mut steps).ok()
+}
+
+/// The same with a counter of its own.
+fn rules(alloc: Global, text: &[u8], step: u16) -> Option<Rules> {
+    rules_of::<Brand>(alloc, text, step.max(10).min(1000), Blank::new(1))
+}
+
+/// What the best of the family costs, and what is found from it: none where there is no drive on time.
+fn energies(alloc: Global, rules: &Rules, search: bool) -> Result<Option<(i128, i128)>, AllocError> {
+    match compose_with_cost(alloc, rules, &Traction)? {
+        Costed::Best(kept) => {
+            let mut best = kept;
+            let before = best.cost;
+            if search {
+                search_drive(alloc, rules, &Traction, &mut best)?;
+            }
+            match rules.judge(best.drive.speeds(), &Traction) {
+                Judged::Kept { cost } => Ok(Some((before, cost))),
+                Judged::Broken(..) => Ok(None),
+            }
+        }
+        _ => Ok(None),
+    }
+}
+
+fn main(rt: HostRuntime) -> io::Result<()> {
+    let mut step: u16 = 100;
+    let mut search = false;
+    for word in env::args(&rt)? {
+        search = word.as_str() == "search";
+        step = word.as_str().parse::<u16>().unwrap_or(step);
+    }
+    let mut text = Vec::new(rt.alloc());
+    rt.stdin().read_to_end(&mut text)?;
+    let Some(rules) = rules(rt.alloc(), text.as_slice(), step) else {
+        return println!(rt; "refused");
+    };
+    match energies(rt.alloc(), &rules, search) {
+        Ok(Some((family, found))) => println!(rt; "family {family} search {found}"),
+        Ok(None) => println!(rt; "late"),
+        Err(_) => println!(rt; "memory"),
+    }
+}
+RT
+proof_of_rules
+build "drive_search rail_specs rail_base step_energy line_file train_file joined_rules drive_rules phase_composer" </dev/null
