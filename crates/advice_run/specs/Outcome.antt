@@ -18,20 +18,20 @@ use Rattle.advice_run.specs.Words.{Command, Usage, Route, Plan}
 -- the text about usage: a line for each command
 abbrev pub usage_text : List ℕ
 usage_text =
-    text_line (codes "usage: advice route FILE [--tolerance N]")
-    ++ text_line (codes "       advice plan LINE TRAIN SERVICE [--step N] [--tolerance N]")
+    text_line (codes "usage: advice route FILE [--splits N] [--tolerance N]")
+    ++ text_line (codes "       advice plan LINE TRAIN SERVICE [--step N] [--splits N] [--tolerance N]")
 
 -- ---- answers to what files say
 
--- the answer to rules at this tolerance, where so many steps were counted: as many as the rules have
-abbrev pub IsRulesAnswer : ℕ → ℕ → Rules → ℕ → List ℕ → Type 0
-IsRulesAnswer tolerance counted r status text = (counted ≡ length r.steps) × IsPlanAnswer traction_cost r tolerance status text
+-- the answer to rules with so many splits, at this tolerance, where so many steps were counted: as many as the rules have
+abbrev pub IsRulesAnswer : ℕ → ℕ → ℕ → Rules → ℕ → List ℕ → Type 0
+IsRulesAnswer splits tolerance counted r status text = (counted ≡ length r.steps) × IsPlanAnswer traction_cost r splits tolerance status text
 
--- the answer to a line, a train and a service, with a grid of this step, at this tolerance: that to their joined rules, or the refusal of
--- these
-abbrev pub IsJoinedAnswer : Line → Train → Service → ℕ → ℕ → ℕ → ℕ → List ℕ → Type 0
-IsJoinedAnswer line train service step tolerance counted =
-    MayAnswer (IsRulesRefusal line train service step) (FreshRules line train service step) (IsRulesAnswer tolerance counted)
+-- the answer to a line, a train and a service, with a grid of this step, with so many splits, at this tolerance: that to their joined
+-- rules, or the refusal of these
+abbrev pub IsJoinedAnswer : Line → Train → Service → ℕ → ℕ → ℕ → ℕ → ℕ → List ℕ → Type 0
+IsJoinedAnswer line train service step splits tolerance counted =
+    MayAnswer (IsRulesRefusal line train service step) (FreshRules line train service step) (IsRulesAnswer splits tolerance counted)
 
 -- ---- a run
 
@@ -39,11 +39,11 @@ IsJoinedAnswer line train service step tolerance counted =
 -- had these counts of faults before and has these now
 abbrev pub MayWrite : Command → (List ℕ → Told) → (List ℕ → ℕ) → (List ℕ → ℕ) → ℕ → ℕ → List ℕ → Type 0
 MayWrite Usage told before now counted status text = (counted ≡ 0) × (status ≡ 2) × (text ≡ usage_text)
-MayWrite (Route file tolerance) told before now counted status text =
-    MayAnswer (RouteEnds file told before now) (RouteSays file told) (λ said. IsRulesAnswer tolerance counted said.0) status text
-MayWrite (Plan line train service step tolerance) told before now counted status text =
+MayWrite (Route file splits tolerance) told before now counted status text =
+    MayAnswer (RouteEnds file told before now) (RouteSays file told) (λ said. IsRulesAnswer splits tolerance counted said.0) status text
+MayWrite (Plan line train service step splits tolerance) told before now counted status text =
     MayAnswer (PlanEnds line train service told before now) (PlanSays line train service told)
-    (λ said. IsJoinedAnswer said.0 said.1.0 said.1.1.0 step tolerance counted) status text
+    (λ said. IsJoinedAnswer said.0 said.1.0 said.1.1.0 step splits tolerance counted) status text
 
 -- a whole text that the run may write was written, with its own status
 pub record Wrote (command : Command) (told : List ℕ → Told) (before now : List ℕ → ℕ)
@@ -65,8 +65,8 @@ pub record WroteFront (command : Command) (told : List ℕ → Told) (before now
 -- the words name this file
 abbrev pub Names : Command → List ℕ → Type 0
 Names Usage name = ⊥
-Names (Route file tolerance) name = name ≡ file
-Names (Plan line train service step tolerance) name = (name ≡ line) ⊎ (name ≡ train) ⊎ (name ≡ service)
+Names (Route file splits tolerance) name = name ≡ file
+Names (Plan line train service step splits tolerance) name = (name ≡ line) ⊎ (name ≡ train) ⊎ (name ≡ service)
 
 -- ---- the words of the system
 

@@ -12,11 +12,11 @@ use Rattle.clap.specs.declared.builder.action.ArgAction.TheVariants.{Set}
 -- a command with its names and numbers, or a word about usage
 pub data Command : Type 0 where
   Usage : Command
-  -- the greatest drive over the route in the file of this name, at this tolerance in per mille
-  Route : List ℕ → ℕ → Command
-  -- the greatest drive over the line, by the train and for the service in the files of these names, with a grid of this step in
-  -- metres, at this tolerance in per mille
-  Plan : List ℕ → List ℕ → List ℕ → ℕ → ℕ → Command
+  -- a plan over the route in the file of this name, with so many splits of cells, at this tolerance in per mille
+  Route : List ℕ → ℕ → ℕ → Command
+  -- a plan over the line, by the train and for the service in the files of these names, with a grid of this step in metres, with so many
+  -- splits of cells, at this tolerance in per mille
+  Plan : List ℕ → List ℕ → List ℕ → ℕ → ℕ → ℕ → Command
 
 -- ---- the simple commands
 
@@ -28,16 +28,18 @@ positional id = record (new_rule id) { required = true; action = Some Set }
 abbrev pub option : Text → Text → Rule
 option id standard = record (new_rule id) { long = Some id; action = Some Set; defaults = standard ∷ [] }
 
--- `route FILE [--tolerance N]`
+-- `route FILE [--splits N] [--tolerance N]`
 abbrev pub route_app : App
-route_app = with_rule (with_rule (new_app (codes "route")) (positional (codes "file"))) (option (codes "tolerance") (codes "10"))
+route_app =
+    with_rule (with_rule (with_rule (new_app (codes "route")) (positional (codes "file")))
+    (option (codes "splits") (codes "2000"))) (option (codes "tolerance") (codes "10"))
 
--- `plan LINE TRAIN SERVICE [--step N] [--tolerance N]`
+-- `plan LINE TRAIN SERVICE [--step N] [--splits N] [--tolerance N]`
 abbrev pub plan_app : App
 plan_app =
-    with_rule (with_rule (with_rule (with_rule (with_rule (new_app (codes "plan")) (positional (codes "line")))
+    with_rule (with_rule (with_rule (with_rule (with_rule (with_rule (new_app (codes "plan")) (positional (codes "line")))
     (positional (codes "train"))) (positional (codes "service")))
-    (option (codes "step") (codes "100"))) (option (codes "tolerance") (codes "10"))
+    (option (codes "step") (codes "100"))) (option (codes "splits") (codes "2000"))) (option (codes "tolerance") (codes "10"))
 
 -- ---- what clap takes of the words, and what the texts that it takes mean
 
@@ -59,28 +61,38 @@ number_in low high text = option_and_then (in_range low high) (digits_number 10 
 
 -- ---- the commands
 
--- `route` of the file of this name, or the usage where the tolerance is no number in its range
-abbrev pub route_of_number : Text → Option ℕ → Command
-route_of_number file None = Usage
-route_of_number file (Some tolerance) = Route file tolerance
+-- `route` of the file of this name, or the usage where a number isn't one in its range
+abbrev pub route_of_numbers : Text → Option ℕ → Option ℕ → Command
+route_of_numbers file None tolerance = Usage
+route_of_numbers file (Some splits) None = Usage
+route_of_numbers file (Some splits) (Some tolerance) = Route file splits tolerance
 
--- `route` with a tolerance of 0 to 1,000 per mille
+-- the number of splits among the rows, 0 to 50,000
+abbrev pub splits_in : List Row → Option ℕ
+splits_in rows = number_in 0 50000 (value_of (codes "splits") rows)
+
+-- the tolerance among the rows, 0 to 1,000 per mille
+abbrev pub tolerance_in : List Row → Option ℕ
+tolerance_in rows = number_in 0 1000 (value_of (codes "tolerance") rows)
+
+-- `route`
 abbrev pub route_of_rows : Option (List Row) → Command
 route_of_rows None = Usage
-route_of_rows (Some rows) = route_of_number (value_of (codes "file") rows) (number_in 0 1000 (value_of (codes "tolerance") rows))
+route_of_rows (Some rows) = route_of_numbers (value_of (codes "file") rows) (splits_in rows) (tolerance_in rows)
 
--- `plan` of the files of these names, or the usage where the step or the tolerance is no number in its range
-abbrev pub plan_of_numbers : Text → Text → Text → Option ℕ → Option ℕ → Command
-plan_of_numbers line train service None tolerance = Usage
-plan_of_numbers line train service (Some step) None = Usage
-plan_of_numbers line train service (Some step) (Some tolerance) = Plan line train service step tolerance
+-- `plan` of the files of these names, or the usage where a number isn't one in its range
+abbrev pub plan_of_numbers : Text → Text → Text → Option ℕ → Option ℕ → Option ℕ → Command
+plan_of_numbers line train service None splits tolerance = Usage
+plan_of_numbers line train service (Some step) None tolerance = Usage
+plan_of_numbers line train service (Some step) (Some splits) None = Usage
+plan_of_numbers line train service (Some step) (Some splits) (Some tolerance) = Plan line train service step splits tolerance
 
--- `plan` with a step of 10 to 1,000 metres and a tolerance of 0 to 1,000 per mille
+-- `plan`, with a step of 10 to 1,000 metres
 abbrev pub plan_of_rows : Option (List Row) → Command
 plan_of_rows None = Usage
 plan_of_rows (Some rows) =
     plan_of_numbers (value_of (codes "line") rows) (value_of (codes "train") rows) (value_of (codes "service") rows)
-    (number_in 10 1000 (value_of (codes "step") rows)) (number_in 0 1000 (value_of (codes "tolerance") rows))
+    (number_in 10 1000 (value_of (codes "step") rows)) (splits_in rows) (tolerance_in rows)
 
 -- the command of a list of words
 abbrev pub command_of : List (List ℕ) → Command

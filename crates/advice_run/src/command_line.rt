@@ -38,17 +38,18 @@ fn with_option<'a>(
     command.arg(arg)
 }
 
-/// The command `route FILE [--tolerance N]`.
+/// The command `route FILE [--splits N] [--tolerance N]`.
 fn route_command<'a>(alloc: Global) -> Result<Command<'a>, AllocError>
     ensures { IfOk result (λ c. app_of c ≡ route_app) }
 {
     let command = Command::new(alloc, "route");
     let command = with_name(alloc, command, "file")?;
+    let command = with_option(alloc, command, "splits", "2000")?;
     let command = with_option(alloc, command, "tolerance", "10")?;
     Ok(command)
 }
 
-/// The command `plan LINE TRAIN SERVICE [--step N] [--tolerance N]`.
+/// The command `plan LINE TRAIN SERVICE [--step N] [--splits N] [--tolerance N]`.
 fn plan_command<'a>(alloc: Global) -> Result<Command<'a>, AllocError>
     ensures { IfOk result (λ c. app_of c ≡ plan_app) }
 {
@@ -57,6 +58,7 @@ fn plan_command<'a>(alloc: Global) -> Result<Command<'a>, AllocError>
     let command = with_name(alloc, command, "train")?;
     let command = with_name(alloc, command, "service")?;
     let command = with_option(alloc, command, "step", "100")?;
+    let command = with_option(alloc, command, "splits", "2000")?;
     let command = with_option(alloc, command, "tolerance", "10")?;
     Ok(command)
 }
@@ -104,8 +106,11 @@ fn number_in(text: &str, low: u32, high: u32) -> Option<u32>
 pub struct RouteWords<'a> {
     /// The name of the route's file.
     pub file: &'a str,
+    /// How many cells may be split, 0 to 50,000.
+    pub splits: u32,
     /// The tolerance, per mille, 0 to 1,000.
     pub tolerance: u32,
+    pub ghost splits_within: { splits ≤ 50000 },
     pub ghost tolerance_within: { tolerance ≤ 1000 },
 }
 
@@ -115,7 +120,7 @@ pub fn read_route_words<'a>(
     words: &'a Words,
 ) -> Result<Option<RouteWords<'a>>, AllocError>
     ensures { IfOk result (λ r. MatchOption r (route_of_rows (taken route_app words.entry.now) ≡ Usage)
-        (λ w. route_of_rows (taken route_app words.entry.now) ≡ Route w.file.now w.tolerance)) }
+        (λ w. route_of_rows (taken route_app words.entry.now) ≡ Route w.file.now w.splits w.tolerance)) }
 {
     let command = route_command(alloc)?;
     match matches_of(command, words)? {
@@ -127,11 +132,13 @@ pub fn read_route_words<'a>(
 /// What the matches of the command `route` say, or none where a number is refused.
 fn route_words<'a>(matches: &ArgMatches<'a>) -> Option<RouteWords<'a>>
     ensures { MatchOption result (route_of_rows (Some (rows_of (found_of matches.now))) ≡ Usage)
-        (λ w. route_of_rows (Some (rows_of (found_of matches.now))) ≡ Route w.file.now w.tolerance) }
+        (λ w. route_of_rows (Some (rows_of (found_of matches.now))) ≡ Route w.file.now w.splits w.tolerance) }
 {
+    let splits = number_in(value_of(matches, "splits"), 0, 50_000)?;
     let tolerance = number_in(value_of(matches, "tolerance"), 0, 1000)?;
     Some(RouteWords {
         file: value_of(matches, "file"),
+        splits,
         tolerance,
     })
 }
@@ -147,9 +154,12 @@ pub struct PlanWords<'a> {
     pub service: &'a str,
     /// The step of the grid, m, 10 to 1,000.
     pub step: u32,
+    /// How many cells may be split, 0 to 50,000.
+    pub splits: u32,
     /// The tolerance, per mille, 0 to 1,000.
     pub tolerance: u32,
     pub ghost step_within: { (10 ≤ step) × (step ≤ 1000) },
+    pub ghost splits_within: { splits ≤ 50000 },
     pub ghost tolerance_within: { tolerance ≤ 1000 },
 }
 
@@ -159,7 +169,7 @@ pub fn read_plan_words<'a>(
     words: &'a Words,
 ) -> Result<Option<PlanWords<'a>>, AllocError>
     ensures { IfOk result (λ r. MatchOption r (plan_of_rows (taken plan_app words.entry.now) ≡ Usage)
-        (λ w. plan_of_rows (taken plan_app words.entry.now) ≡ Plan w.line.now w.train.now w.service.now w.step w.tolerance)) }
+        (λ w. plan_of_rows (taken plan_app words.entry.now) ≡ Plan w.line.now w.train.now w.service.now w.step w.splits w.tolerance)) }
 {
     let command = plan_command(alloc)?;
     match matches_of(command, words)? {
@@ -171,15 +181,17 @@ pub fn read_plan_words<'a>(
 /// What the matches of the command `plan` say, or none where a number is refused.
 fn plan_words<'a>(matches: &ArgMatches<'a>) -> Option<PlanWords<'a>>
     ensures { MatchOption result (plan_of_rows (Some (rows_of (found_of matches.now))) ≡ Usage)
-        (λ w. plan_of_rows (Some (rows_of (found_of matches.now))) ≡ Plan w.line.now w.train.now w.service.now w.step w.tolerance) }
+        (λ w. plan_of_rows (Some (rows_of (found_of matches.now))) ≡ Plan w.line.now w.train.now w.service.now w.step w.splits w.tolerance) }
 {
     let step = number_in(value_of(matches, "step"), 10, 1000)?;
+    let splits = number_in(value_of(matches, "splits"), 0, 50_000)?;
     let tolerance = number_in(value_of(matches, "tolerance"), 0, 1000)?;
     Some(PlanWords {
         line: value_of(matches, "line"),
         train: value_of(matches, "train"),
         service: value_of(matches, "service"),
         step,
+        splits,
         tolerance,
     })
 }

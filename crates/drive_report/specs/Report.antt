@@ -72,9 +72,14 @@ abbrev pub energy_lines : ℤ → ℤ → List ℕ
 energy_lines energy bound =
     number_line (codes "energy") energy ++ number_line (codes "kilojoules") (kilojoules_of energy) ++ number_line (codes "bound") bound
 
--- the report of a drive: whether the gap is met, its energy and the bound, its phases, its times, and its speeds
-abbrev pub report_text : Rules → List ℕ → ℤ → ℤ → Bool → List ℕ
-report_text r speeds energy bound met =
-    head_line ++ gap_line met ++ energy_lines energy bound ++ phase_lines r speeds (length r.steps)
+-- the lines of the number of cells and of the splits that made them
+abbrev pub count_lines : ℕ → ℕ → List ℕ
+count_lines cells splits = number_line (codes "cells") (pos cells) ++ number_line (codes "splits") (pos splits)
+
+-- the report of a drive: whether the gap is met, its energy and the bound, how many cells the bound has and how many splits made them, the
+-- drive's phases, its times, and its speeds
+abbrev pub report_text : Rules → List ℕ → ℤ → ℤ → Bool → ℕ → ℕ → List ℕ
+report_text r speeds energy bound met cells splits =
+    head_line ++ gap_line met ++ energy_lines energy bound ++ count_lines cells splits ++ phase_lines r speeds (length r.steps)
     ++ flat_map (time_line r speeds) r.timings
     ++ speeds_line speeds ++ line (codes "end")

@@ -7,7 +7,7 @@ ghost use Rattle.rail_specs.specs.Rules.{IsDrive};
 ghost use Rattle.rail_specs.specs.Times.{arrival_up};
 ghost use Rattle.drive_report.specs.Phase.{phase_at, phase_name};
 ghost use Rattle.drive_report.specs.Report.{gap_line, speeds_line, kilojoules_of, ends_run, run_start};
-ghost use Rattle.drive_report.specs.Report.{phase_line, phase_lines, time_line, energy_lines, report_text};
+ghost use Rattle.drive_report.specs.Report.{phase_line, phase_lines, time_line, energy_lines, count_lines, report_text};
 
 use crate::kinds::Phase;
 use crate::lines::put_head;
@@ -218,8 +218,18 @@ fn put_energy(alloc: Global, out: &mut Vec<u8>, energy: i128, bound: i128) -> Re
     Ok(())
 }
 
-/// The report of a drive: whether the gap between its energy and a bound is met, its energy, also in kilojoules, the bound, a
-/// line for each longest run of steps of one phase, a line for each timing point, and its speeds.
+/// Appends the lines of the cells and the splits.
+fn put_counts(alloc: Global, out: &mut Vec<u8>, cells: u64, splits: u32) -> Result<(), AllocError>
+    ensures { OnOk result (out.new.items ≡ out.old.items ++ count_lines cells splits) }
+{
+    put_number_line(alloc, out, b"cells", cells as i128)?;
+    put_number_line(alloc, out, b"splits", splits as i128)?;
+    Ok(())
+}
+
+/// The report of a drive: whether the gap between its energy and a bound is met, its energy, also in kilojoules, the bound, how many cells
+/// the bound has and how many splits made them, a line for each longest run of steps of one phase, a line for each timing point, and its
+/// speeds.
 ///
 /// Energy and bound are in 0.5 microjoule, the speeds in cm/s, one for each point. The only error is want of memory.
 pub fn report(
@@ -229,14 +239,17 @@ pub fn report(
     energy: i128,
     bound: i128,
     met: bool,
+    cells: u64,
+    splits: u32,
 ) -> Result<Vec<u8>, AllocError>
     requires { IsDrive rules.now speeds.now }
-    ensures { IfOk result (λ text. text.items ≡ report_text rules.now speeds.now energy bound met) }
+    ensures { IfOk result (λ text. text.items ≡ report_text rules.now speeds.now energy bound met cells splits) }
 {
     let mut out = Vec::new(alloc);
     put_head(&mut out)?;
     put_gap(&mut out, met)?;
     put_energy(alloc, &mut out, energy, bound)?;
+    put_counts(alloc, &mut out, cells, splits)?;
     put_phases(alloc, &mut out, rules, speeds)?;
     put_times(alloc, &mut out, rules, speeds)?;
     put_speeds(alloc, &mut out, speeds)?;

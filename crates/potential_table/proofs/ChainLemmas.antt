@@ -14,7 +14,7 @@ use Rattle.potential_table.specs.PricedLaws.{priced_costs}
 use Rattle.potential_table.specs.Soundness.{IsPricing}
 
 -- numbers less the same
-less_same : (v w : Option ℤ) (s : ℤ) → IsAtMost v w → IsAtMost (option_map (λ q. q -ℤ s) v) (option_map (λ q. q -ℤ s) w)
+pub less_same : (v w : Option ℤ) (s : ℤ) → IsAtMost v w → IsAtMost (option_map (λ q. q -ℤ s) v) (option_map (λ q. q -ℤ s) w)
 less_same v None s h = tt
 less_same None (Some w) s h = absurd h
 less_same (Some v) (Some w) s h = omega (arith, ints, h)

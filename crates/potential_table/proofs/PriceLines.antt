@@ -20,7 +20,7 @@ use Rattle.bound_specs.specs.Links.{Pricing, can_link, priced_time, low_cost}
 
 -- ---- sums of which one term changes
 
-sum_same : (f g : ℕ → ℕ) (n : ℕ) → ((h : ℕ) → h < n → f h ≡ g h) → sum_below f n ≡ sum_below g n
+pub sum_same : (f g : ℕ → ℕ) (n : ℕ) → ((h : ℕ) → h < n → f h ≡ g h) → sum_below f n ≡ sum_below g n
 sum_same f g zero e = refl
 sum_same f g (suc n) e = omega (arith, sum_same f g n (λ h l. e h (omega (arith, l))), e n (omega arith))
 
@@ -71,7 +71,7 @@ step_price_more p j q i l m =
     let moved = sum_one (λ h. charge (price_set p j (q + 1)) h i) (λ h. charge (price_set p j q) h i) j (length p.points) m (λ h other. charge_other p j q h i other) in
     omega (arith, moved, charge_is p j (q + 1) i l, charge_is p j q i l, one_more (nat_lt i (slice_index p.points j)) q)
 
-times_more : (q : ℕ) (s : ℤ) → pos (q + 1) *ℤ s ≡ pos q *ℤ s +ℤ s
+pub times_more : (q : ℕ) (s : ℤ) → pos (q + 1) *ℤ s ≡ pos q *ℤ s +ℤ s
 times_more q (pos s) = omega (arith, ints, add-mul q 1 s)
 times_more q (negsuc s) = omega (arith, ints, add-mul q 1 (suc s))
 

@@ -7,7 +7,7 @@
 
 mod rounds;
 
-pub use rounds::find_prices;
+pub use rounds::{find_prices, improve_prices};
 
 #[cfg(test)]
 mod tests;

@@ -48,7 +48,7 @@ pub fn find_prices<C: StepCost>(
     }
     let listed = prices_for(alloc, rules, given.values())?;
     let start = potentials_at(alloc, rules, cost, cells, listed)?;
-    let gone = go_round(alloc, rules, cost, cells, better(alone, start))?;
+    let gone = improve_prices(alloc, rules, cost, cells, better(alone, start))?;
     let best = best_valued(alloc, rules, cost, cells, &gone.prices, timings - 1)?;
     Ok(best)
 }
@@ -89,8 +89,14 @@ fn better(first: Valued, second: Valued) -> Valued
     }
 }
 
-/// Each timing point in turn gets its best price, until a whole round gains little.
-fn go_round<C: StepCost>(
+/// How often so many timing points are gone over at most: one alone has its best price after the first time.
+fn most_rounds(timings: usize) -> usize {
+    if timings <= 1 { 1 } else { MOST_ROUNDS }
+}
+
+/// Prices no worse than those that these cells have, with the potentials and the chain value: each timing point in turn gets its best
+/// price, until a whole round gains little. Or want of memory.
+pub fn improve_prices<C: StepCost>(
     alloc: Global,
     rules: &Rules,
     cost: &C,
@@ -104,7 +110,7 @@ fn go_round<C: StepCost>(
     ensures no_less { IfOk result (λ found. IsAtMost begun.value found.value) }
 {
     let mut best = begun;
-    for _ in 0..MOST_ROUNDS {
+    for _ in 0..most_rounds(rules.timings().len()) {
         let before = best.value;
         best = gone_once(alloc, rules, cost, cells, best)?;
         if !gains(before, best.value) {

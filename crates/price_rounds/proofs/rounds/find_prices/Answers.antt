@@ -28,8 +28,8 @@ returns-then-timings-eq1-clause-no_less g c =
     beats_alone c.args.rules.now c.args.given.now c.known-2.ensures.prices c.requires.prices (g.C.StepCost.cost c.args.cost.now) c.args.cells.now c.in_ok-alone.alone.value
     (single_alone c.args.rules.now c.args.given.now c.known-2.ensures.prices c.requires.prices one) c.known.ensures.some_timings c.in_ok-alone.ensures.each
 
-pub go_round-requires-clause-valued : goal.go_round-requires-clause-valued
-go_round-requires-clause-valued g c =
+pub improve_prices-requires-clause-valued : goal.improve_prices-requires-clause-valued
+improve_prices-requires-clause-valued g c =
     let start = c.in_ok-start.ensures in
     one_valued (g.C.StepCost.cost c.args.cost.now) c.args.rules.now c.args.cells.now c.in_ok-alone.alone c.in_ok-start.start c.better.result c.in_ok-alone.ensures.valued
     record {

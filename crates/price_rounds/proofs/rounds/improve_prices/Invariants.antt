@@ -1,6 +1,6 @@
 use Rattle.bound_specs.specs.Chains.{IsAtMost}
 use Rattle.price_rounds.specs.Rounds.{IsValued}
-use Rattle.price_rounds.proofs.rounds.go_round.Given as goal
+use Rattle.price_rounds.proofs.rounds.improve_prices.Given as goal
 
 abbrev pub invariant-loop : goal.invariant-loop
 invariant-loop g l = record {

@@ -1,0 +1,174 @@
+//! The plan of a run.
+ghost use Rattle.std.specs.Prelude.{◌≡◌, ◌≢◌, ◌≤◌, ◌+◌, ◌⊎◌, length, map, IfOk, EachIndex};
+ghost use Rattle.std.specs.List.{slice_index_or};
+ghost use Rattle.rail_specs.specs.Rules.{IsDrive};
+ghost use Rattle.rail_specs.specs.Cost.{cost_of};
+ghost use Rattle.bound_specs.specs.Cells.{cell_count, AreSingle};
+ghost use Rattle.phase_composer.specs.Best.{IsBestOfFamily};
+ghost use Rattle.price_rounds.specs.Rounds.{IsValued, IsLastBest, BeatsAlone};
+ghost use Rattle.proposers.specs.States.{Improves, IsOnTimeDrive, no_state, state};
+ghost use Rattle.planner.specs.Works.{AreSplit, IsMet};
+ghost use Rattle.planner.specs.Plans.{IsSomePlan, IsAnswer, AreAsked};
+ghost use Rattle.std.specs.Int.RustNames.{unsigned_abs};
+
+use crate::answer::{Answer, Options, Plan};
+use crate::finish::finished;
+use crate::goal::Goal;
+use crate::refine::refined;
+use crate::start::even_cells;
+use crate::work::Work;
+use cell_splitting::splits_known;
+use drive_rules::{Drive, Judged, Rules};
+use phase_composer::{Costed, compose_with_cost};
+use potential_table::{finer_cells_bound_more, prices_for};
+use price_rounds::find_prices;
+use proposers::{Proposer, improve};
+use rail_base::StepCost;
+use relaxed_costs::relaxed_costs_known;
+use std::alloc::{AllocError, Global};
+
+/// A plan for the rules of a run, at a cost of work; or that there is no drive, or that none is on time. `AllocError` is want of memory: a
+/// box may then have been begun and asked.
+///
+/// The drive is the best of the family of composed drives, improved by what the boxes offer, each of which is begun and asked in order. The
+/// bound is the chain value of cells that come from one cell for each point by splits, as many as `options` allow, at prices of the
+/// timing points. It is a bound, whatever the boxes offer and whichever cells are split: no drive on time costs less.
+pub fn plan<C: StepCost>(
+    alloc: Global,
+    rules: &Rules,
+    cost: &C,
+    options: Options,
+    boxes: &mut Vec<Box<dyn Proposer>>,
+) -> Result<Answer, AllocError>
+    requires splits { options.splits ≤ 50000 }
+    requires tolerance { options.tolerance ≤ 1000 }
+    ensures answer { IfOk result (IsAnswer (C.cost cost.now) rules.now options.splits options.tolerance) }
+    ensures asked { IfOk result (AreAsked (C.cost cost.now) rules.now
+        (map (λ b. state (offers b) (takes b) (begins b)) boxes.old.items)
+        (map (λ b. state (offers b) (takes b) (begins b)) boxes.new.items)) }
+    ensures len { length boxes.new.items ≡ length boxes.old.items }
+{
+    match compose_with_cost(alloc, rules, cost)? {
+        Costed::NoDrive => Ok(Answer::NoDrive),
+        Costed::Late { timing, arrival } => Ok(Answer::Late { timing, arrival }),
+        Costed::Best(kept) => {
+            let plan = plan_from(alloc, rules, cost, options, boxes, kept.drive)?;
+            Ok(Answer::Drive(plan))
+        }
+    }
+}
+
+/// The plan with a drive that is the best of the family, once boxes have improved it. Or want of memory.
+fn plan_from<C: StepCost>(
+    alloc: Global,
+    rules: &Rules,
+    cost: &C,
+    options: Options,
+    boxes: &mut Vec<Box<dyn Proposer>>,
+    drive: Drive,
+) -> Result<Plan, AllocError>
+    requires splits { options.splits ≤ 50000 }
+    requires tolerance { options.tolerance ≤ 1000 }
+    requires best { IsBestOfFamily (C.cost cost.now) rules.now drive }
+    ensures plan { IfOk result (IsSomePlan (C.cost cost.now) rules.now options.splits options.tolerance) }
+    ensures improves { IfOk result (λ plan. EachIndex boxes.new.items (λ k. Improves (C.cost cost.now) rules.now plan.drive
+        (slice_index_or (map (λ b. state (offers b) (takes b) (begins b)) boxes.old.items) k no_state)
+        (slice_index_or (map (λ b. state (offers b) (takes b) (begins b)) boxes.new.items) k no_state))) }
+    ensures len { length boxes.new.items ≡ length boxes.old.items }
+{
+    let mut drive = drive;
+    improve(alloc, boxes, rules, cost, &mut drive)?;
+    planned(alloc, rules, cost, options, drive)
+}
+
+/// The plan with a drive. Or want of memory.
+fn planned<C: StepCost>(
+    alloc: Global,
+    rules: &Rules,
+    cost: &C,
+    options: Options,
+    drive: Drive,
+) -> Result<Plan, AllocError>
+    requires splits { options.splits ≤ 50000 }
+    requires tolerance { options.tolerance ≤ 1000 }
+    requires best { IsBestOfFamily (C.cost cost.now) rules.now drive }
+    ensures plan { IfOk result (IsSomePlan (C.cost cost.now) rules.now options.splits options.tolerance) }
+    ensures drive { IfOk result (λ plan. plan.drive ≡ drive) }
+{
+    rules.known();
+    splits_known();
+    finer_cells_bound_more(rules);
+    let goal = Goal {
+        energy: cost_of_drive(rules, cost, &drive),
+        tolerance: options.tolerance,
+        splits: options.splits,
+    };
+    let Work { cells, valued } = found_work(alloc, rules, cost, goal, drive.speeds())?;
+    relaxed_costs_known(rules, &valued.prices);
+    let Some(bound) = valued.value else {
+        unreachable!();
+    };
+    let splits = (cells.count() - rules.points()) as u32;
+    Ok(Plan {
+        drive,
+        cost: goal.energy,
+        bound,
+        prices: valued.prices,
+        cells,
+        potentials: valued.potentials,
+        splits,
+        met: goal.is_met(Some(bound)),
+    })
+}
+
+/// The cells and prices that give the bound, where there is a drive. Or want of memory.
+fn found_work<C: StepCost>(
+    alloc: Global,
+    rules: &Rules,
+    cost: &C,
+    goal: Goal,
+    drive: &[u16],
+) -> Result<Work, AllocError>
+    requires { IsDrive rules.now drive.now }
+    ensures cells { IfOk result (λ work. AreSplit rules.now goal.splits work.cells) }
+    ensures valued { IfOk result (λ work. IsValued (C.cost cost.now) rules.now work.cells work.valued) }
+    ensures last { IfOk result (λ work. IsLastBest (C.cost cost.now) rules.now work.cells work.valued.prices work.valued.value) }
+    ensures alone { IfOk result (λ work. BeatsAlone (C.cost cost.now) rules.now work.cells work.valued.value) }
+    ensures spent { IfOk result (λ work. (IsMet goal.energy goal.tolerance work.valued.value → ⊥)
+        → (cell_count work.cells ≡ length rules.now.steps + 1 + goal.splits) ⊎ AreSingle work.cells) }
+{
+    let work = first_work(alloc, rules, cost, goal, drive)?;
+    let work = refined(alloc, rules, cost, goal, work)?;
+    finished(alloc, rules, cost, goal, work)
+}
+
+/// The even cells, with prices for them. Or want of memory.
+fn first_work<C: StepCost>(
+    alloc: Global,
+    rules: &Rules,
+    cost: &C,
+    goal: Goal,
+    drive: &[u16],
+) -> Result<Work, AllocError>
+    requires { IsDrive rules.now drive.now }
+    ensures cells { IfOk result (λ work. AreSplit rules.now goal.splits work.cells) }
+    ensures valued { IfOk result (λ work. IsValued (C.cost cost.now) rules.now work.cells work.valued) }
+{
+    let zeros = vec![in alloc; 0u64; rules.timings().len()]?;
+    let none = prices_for(alloc, rules, zeros.as_slice())?;
+    let cells = even_cells(alloc, rules, &none, drive, goal.splits)?;
+    let valued = find_prices(alloc, rules, cost, &cells, &none)?;
+    Ok(Work { cells, valued })
+}
+
+/// What a drive on time costs.
+fn cost_of_drive<C: StepCost>(rules: &Rules, cost: &C, drive: &Drive) -> i128
+    requires { IsOnTimeDrive rules.now drive.now }
+    ensures value { result ≡ cost_of (C.cost cost.now) rules.now drive.now }
+    ensures small { unsigned_abs result ≤ 2 ^ 74 }
+{
+    match rules.judge(drive.speeds(), cost) {
+        Judged::Kept { cost } => cost,
+        Judged::Broken(..) => unreachable!(),
+    }
+}

@@ -1,0 +1,2 @@
+pub mod RelaxedLemmas
+pub mod SingleLemmas
