@@ -68,7 +68,8 @@ pub(crate) fn splits_left(rules: &Rules, cells: &Cells, splits: u32) -> usize
 /// Whether the chain value has risen by its share.
 fn has_risen(before: Option<i128>, now: Option<i128>) -> bool {
     match (before, now) {
-        (Some(before), Some(now)) => now.saturating_sub(before) > now.saturating_abs() / SHARE_OF_RISE,
+        (Some(before), Some(now)) => now.saturating_sub(before)
+            > now.saturating_abs() / SHARE_OF_RISE,
         _ => false,
     }
 }
