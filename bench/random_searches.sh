@@ -1,5 +1,6 @@
 #!/bin/sh
-# Searches for drives on random runs: each answer is on time and no dearer than the best of the family, and each search ends. Needs rt and awk.
+# Searches for drives on random runs: each answer is on time and no dearer than the best of the family, and each search ends. Needs rt and
+# awk.
 #
 # usage: bench/random_searches.sh [COUNT [FIRST]]        1,000 runs from seed 1 if left out
 set -eu
@@ -19,7 +20,8 @@ random_run() { # line.csv, train.toml and service.csv of this seed; prints the s
         mass = 200 + draw(30000); force = mass * (20 + draw(100)); force = force < 2000000 ? force : 2000000
         brake = mass * (40 + draw(80)); brake = brake < 2000000 ? brake : 2000000
         top = 500 + draw(4000); mid = 1 + draw(top - 1)
-        print "mass = " mass "\ninertia = " mass + int(mass / 12) "\na = " draw(2 * mass) "\nb = " draw(100) "\nc = " draw(1500) >"train.toml"
+        print "mass = " mass "\ninertia = " mass + int(mass / 12) >"train.toml"
+        print "a = " draw(2 * mass) "\nb = " draw(100) "\nc = " draw(1500) >"train.toml"
         print "traction = [[0, " force "], [" mid ", " force "], [" top ", " int(force * mid / top) "]]" >"train.toml"
         print "brake = [[0, " brake "], [" top ", " brake "]]" >"train.toml"
         print "place,name,dwell,latest\n0,A,," >"service.csv"

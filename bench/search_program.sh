@@ -8,7 +8,10 @@ cp "$top/examples/40km/train.toml" "$work/run/"
 sample() { # the line and the service of the sample of this number
     awk -v n="$1" 'BEGIN {
         x = n % 2147483648
-        for (k = 0; k < 84; k++) { d[k] = int(x / 65536); x = (1103515245 * (x % 65536) + 12345 + (1103515245 * int(x / 65536) % 32768) * 65536) % 2147483648 }
+        for (k = 0; k < 84; k++) {
+            d[k] = int(x / 65536)
+            x = (1103515245 * (x % 65536) + 12345 + (1103515245 * d[k] % 32768) * 65536) % 2147483648
+        }
         print "kind,from,to,value"
         for (b = 0; b < 40; b++) print "limit," 1000 * b "," 1000 * (b + 1) "," 54 + 9 * (d[2 * b + 2] % 9)
         for (b = 0; b < 40; b++) print "gradient," 1000 * b "," 1000 * (b + 1) "," d[2 * b + 1] % 101 - 50 }' >line.csv
