@@ -158,13 +158,17 @@ for size in "1000 51" "1000 256" "100 125"; do
     two=$(counted $size 2 0 0)
     searched=$(counted $size 1 1 0)
     best=$(cut -d ' ' -f 2 "$work/text")
+    priced=$(counted $size 1 0 "$best")
+    priced_two=$(counted $size 2 0 "$best")
     again=$(counted $size 1 1 "$best")
     near=$(counted $size 1 1 $((best + best / 50)))
     python3 -c "
-metres, most, table = $(echo "$size" | tr ' ' ','), $two - $one
+metres, most = $(echo "$size" | tr ' ' ',')
 points = 40000 // metres - 1
 links = (points - 1) * most * most + 2 * most
+free, table = $two - $one, $priced_two - $priced
 cold, warm, near = [((n - $one) / table - 2) / 2 for n in ($searched, $again, $near)]
-print(f'{metres} m, {most} cells a point: {table / 1e6:.1f} million instructions a table, {table / links:.1f} a pair of cells;', end=' ')
-print(f'best price $best after {cold:.1f} pairs of tables from 0, {warm:.1f} from itself, {near:.1f} from 2 per cent above')"
+print(f'{metres} m, {most} cells a point: a table takes {free / 1e6:.1f} million instructions at price 0, {table / 1e6:.1f} at the best price,')
+print(f'    {free / links:.1f} and {table / links:.1f} a pair of cells; best price $best after {cold:.1f} pairs of tables from 0, {warm:.1f} from itself,')
+print(f'    {near:.1f} from 2 per cent above')"
 done
