@@ -28,7 +28,7 @@ use Rattle.chain_duality.proofs.Duality.{weak_duality}
 -- ---- sums
 
 -- the first term of a sum, set apart
-sum-first : (g : ℕ → ℤ) (n : ℕ) → int_sum_below g (suc n) ≡ g 0 +ℤ int_sum_below (λ i. g (i + 1)) n
+pub sum-first : (g : ℕ → ℤ) (n : ℕ) → int_sum_below g (suc n) ≡ g 0 +ℤ int_sum_below (λ i. g (i + 1)) n
 sum-first g zero = omega (arith, ints)
 sum-first g (suc n) =
     let e : suc n ≡ n + 1 = omega arith in
@@ -36,7 +36,7 @@ sum-first g (suc n) =
     omega (arith, ints, sum-first g n, last)
 
 -- the costs along a list, where each of its steps costs what g says
-along-sum : (f : ℕ → ℕ → ℕ → Option ℤ) (g : ℕ → ℤ) (k x : ℕ) (rest : List ℕ) →
+pub along-sum : (f : ℕ → ℕ → ℕ → Option ℤ) (g : ℕ → ℤ) (k x : ℕ) (rest : List ℕ) →
     ((i : ℕ) → i < length rest → f (k + i) (slice_index (x ∷ rest) i) (slice_index (x ∷ rest) (i + 1)) ≡ Some (g i)) →
     cost_along f k (x ∷ rest) ≡ Some (int_sum_below g (length rest))
 along-sum f g k x [] h = refl
@@ -53,11 +53,11 @@ along-sum f g k x (y ∷ rest) h =
     rw first (rw others (ap Some (sym (sum-first g (length rest)))))
 
 -- costs and times, summed apart
-sum-parts : (c : ℕ → ℤ) (t : ℕ → ℕ) (n : ℕ) → int_sum_below (λ i. c i +ℤ pos (t i)) n ≡ int_sum_below c n +ℤ pos (sum_below t n)
+pub sum-parts : (c : ℕ → ℤ) (t : ℕ → ℕ) (n : ℕ) → int_sum_below (λ i. c i +ℤ pos (t i)) n ≡ int_sum_below c n +ℤ pos (sum_below t n)
 sum-parts c t zero = omega (arith, ints)
 sum-parts c t (suc n) = omega (arith, ints, sum-parts c t n)
 
-sum-apart : (f g : ℕ → ℕ) (n : ℕ) → sum_below (λ i. f i + g i) n ≡ sum_below f n + sum_below g n
+pub sum-apart : (f g : ℕ → ℕ) (n : ℕ) → sum_below (λ i. f i + g i) n ≡ sum_below f n + sum_below g n
 sum-apart f g zero = omega arith
 sum-apart f g (suc n) = omega (arith, sum-apart f g n)
 
@@ -78,11 +78,11 @@ prices-keep values times slacks (suc n) h =
 -- ---- drives
 
 -- what the steps of a drive take, rounded down
-abbrev step_time : Rules → List ℕ → ℕ → ℕ
+abbrev pub step_time : Rules → List ℕ → ℕ → ℕ
 step_time r d i = lower_time (step_at r i).metres (slice_index d i) (slice_index d (i + 1))
 
 -- each step of a drive can be driven
-drive_can : (r : Rules) (d : List ℕ) (i : ℕ) → IsShaped r → IsDrive r d → i < length r.steps → can_drive r i (slice_index d i) (slice_index d (i + 1)) ≡ true
+pub drive_can : (r : Rules) (d : List ℕ) (i : ℕ) → IsShaped r → IsDrive r d → i < length r.steps → can_drive r i (slice_index d i) (slice_index d (i + 1)) ≡ true
 drive_can r d i s drive l =
     let moving = s.moving i (slice_index d i) (slice_index d (i + 1)) l
     (λ e. subst (λ (k : ℕ). slice_index d k ≡ r.start) (sym e) drive.start)
@@ -91,7 +91,7 @@ drive_can r d i s drive l =
     kept-can_drive r i (slice_index d i) (slice_index d (i + 1)) moving (drive.steps i l)
 
 -- what a drive pays for work and time
-drive_pays : (p : Pricing) (v : ℕ) (speeds : List ℕ) → IsShaped p.rules → IsDrive p.rules (v ∷ speeds) →
+pub drive_pays : (p : Pricing) (v : ℕ) (speeds : List ℕ) → IsShaped p.rules → IsDrive p.rules (v ∷ speeds) →
     cost_along (priced_cost p) 0 (v ∷ speeds)
     ≡ Some (cost_of p.cost p.rules (v ∷ speeds) +ℤ pos (sum_below (λ i. step_price p.prices i * step_time p.rules (v ∷ speeds) i) (length p.rules.steps)))
 drive_pays p v speeds s drive =
@@ -112,7 +112,7 @@ pub timing_count : (r : Rules) (p : Prices) → AreFor r p → length p.points �
 timing_count r p a = ap length a ∙ length-map r.timings (λ (t : Timing). t.point)
 
 -- the timing points of prices are those of the rules
-point_is : (r : Rules) (p : Prices) (j : ℕ) → AreFor r p → j < length r.timings → slice_index p.points j ≡ (timing_at r j).point
+pub point_is : (r : Rules) (p : Prices) (j : ℕ) → AreFor r p → j < length r.timings → slice_index p.points j ≡ (timing_at r j).point
 point_is r p j a l = rw a (get_or-map (λ (t : Timing). t.point) r.timings j no_timing 0 l)
 
 -- a drive that is on time keeps the slack of each timing point
@@ -123,7 +123,7 @@ slack_kept r d j t l =
     omega (arith, ints, on_time, parts)
 
 -- what a drive that is on time pays for its time is at most the priced slack
-time_pays : (r : Rules) (p : Prices) (d : List ℕ) → IsShaped r → AreFor r p → StepsSumByParts p → IsOnTimeDown r d →
+pub time_pays : (r : Rules) (p : Prices) (d : List ℕ) → IsShaped r → AreFor r p → StepsSumByParts p → IsOnTimeDown r d →
     pos (sum_below (λ i. step_price p i * step_time r d i) (length r.steps)) ≤ℤ priced_slack r p
 time_pays r p d s a parts t =
     let count = timing_count r p a in

@@ -10,8 +10,8 @@ use Rattle.bound_specs.specs.ChainValues.{IsChainValue, AreFiner}
 use Rattle.bound_specs.specs.Links.{Pricing, priced_cost, low_cost}
 use Rattle.bound_specs.specs.Prices.{priced_slack}
 use Rattle.chain_duality.proofs.Finer.{finer_chains}
-use Rattle.potential_table.specs.PricedLaws.{priced_costs}
-use Rattle.potential_table.specs.Soundness.{IsPricing}
+use Rattle.link_costs.specs.PricedLaws.{priced_costs}
+use Rattle.link_costs.specs.Soundness.{IsPricing}
 
 -- numbers less the same
 pub less_same : (v w : Option ℤ) (s : ℤ) → IsAtMost v w → IsAtMost (option_map (λ q. q -ℤ s) v) (option_map (λ q. q -ℤ s) w)

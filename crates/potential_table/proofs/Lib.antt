@@ -4,11 +4,9 @@ pub mod CopyLemmas
 pub mod GroupLemmas
 pub mod LayoutLemmas
 pub mod LeastLemmas
-pub mod LinkLemmas
 pub mod PriceLines
 pub mod RenewLemmas
 pub mod StartLemmas
 pub mod StepBack
 pub mod TableLemmas
-pub mod TimingLemmas
 pub mod WayLemmas

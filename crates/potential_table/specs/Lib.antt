@@ -3,8 +3,6 @@ pub mod Filling
 pub mod FrontLaws
 pub mod Fronts
 pub mod Layout
-pub mod PricedLaws
 pub mod Searching
-pub mod Soundness
 pub mod Slopes
 pub mod Ways

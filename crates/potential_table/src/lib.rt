@@ -7,24 +7,19 @@
 mod front;
 mod laws;
 mod least;
-mod links;
 mod lower_bound;
 mod price_search;
-mod priced;
 mod renew;
-mod sums;
 mod table;
-mod timing_prices;
 mod ways;
 
 pub use front::Front;
 pub use laws::finer_cells_bound_more;
 pub use least::potentials;
+pub use link_costs::{Priced, prices_for};
 pub use lower_bound::bound;
 pub use price_search::{Valued, best_price, best_valued, potentials_at};
-pub use priced::Priced;
 pub use table::Potentials;
-pub use timing_prices::prices_for;
 
 #[cfg(test)]
 mod slope_tests;

@@ -10,10 +10,9 @@ ghost use Rattle.bound_specs.specs.Prices.{AreFor};
 
 use crate::least::potentials;
 use crate::lower_bound::bound;
-use crate::priced::Priced;
 use crate::table::Potentials;
-use crate::timing_prices::prices_for;
 use drive_rules::Rules;
+use link_costs::{Priced, prices_for};
 use rail_base::StepCost;
 use speed_cells::Cells;
 use std::alloc::{AllocError, Global};

@@ -19,9 +19,9 @@ use Rattle.rule_parts.specs.Shaped.{IsShaped}
 use Rattle.speed_cells.proofs.Covering.{fitting_cover}
 use Rattle.chain_duality.proofs.Lists.{AreCellsOfPoints}
 use Rattle.chain_duality.proofs.Orders.{at_most-refl, at_most-trans, plus_rises}
-use Rattle.potential_table.specs.PricedLaws.{priced_costs}
-use Rattle.potential_table.specs.Soundness.{IsPricing}
-use Rattle.potential_table.proofs.BoundLemmas.{sum-apart, step_time, drive_pays, timing_count, point_is, time_pays}
+use Rattle.link_costs.specs.PricedLaws.{priced_costs}
+use Rattle.link_costs.specs.Soundness.{IsPricing}
+use Rattle.link_costs.proofs.BoundLemmas.{sum-apart, step_time, drive_pays, timing_count, point_is, time_pays}
 use Rattle.potential_table.proofs.PriceLines.{sum_same, times_more}
 use Rattle.potential_table.proofs.ChainLemmas.{less_same}
 use Rattle.relaxed_costs.specs.Relaxed.{lateness, relaxed_cost}

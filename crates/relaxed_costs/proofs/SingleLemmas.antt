@@ -16,9 +16,9 @@ use Rattle.bound_specs.specs.Prices.{step_price, priced_slack}
 use Rattle.bound_specs.specs.Links.{Pricing, can_drive, priced_time, priced_cost, low_cost}
 use Rattle.time_multipliers.specs.Steps.{StepsSumByParts}
 use Rattle.chain_duality.proofs.Orders.{second_part}
-use Rattle.potential_table.specs.PricedLaws.{can_drive-kept}
-use Rattle.potential_table.specs.Soundness.{IsPricing}
-use Rattle.potential_table.proofs.BoundLemmas.{step_time, drive_pays}
+use Rattle.link_costs.specs.PricedLaws.{can_drive-kept}
+use Rattle.link_costs.specs.Soundness.{IsPricing}
+use Rattle.link_costs.proofs.BoundLemmas.{step_time, drive_pays}
 use Rattle.relaxed_costs.specs.Relaxed.{relaxed_cost, IsLeastRelaxed}
 use Rattle.relaxed_costs.proofs.RelaxedLemmas.{relaxed_is, cells_rise, start_cell, value_below}
 

@@ -3,7 +3,7 @@ use Rattle.std.specs.Prelude.{ℤ}
 use Rattle.bound_specs.specs.ChainValues.{IsChainValue, price_set, with_price}
 use Rattle.bound_specs.specs.Links.{Pricing}
 use Rattle.bound_specs.specs.Prices.{Prices}
-use Rattle.potential_table.proofs.BoundLemmas.{timing_count}
+use Rattle.link_costs.proofs.BoundLemmas.{timing_count}
 use Rattle.potential_table.proofs.PriceLines.{set_to_itself, same_prices, no_less_than_itself}
 use Rattle.potential_table.proofs.price_search.best_valued.Goals as goal
 

@@ -5,7 +5,7 @@ use Rattle.bound_specs.specs.ChainValues.{IsChainValue, IsBestPrice, with_price}
 use Rattle.bound_specs.specs.Links.{Pricing}
 use Rattle.potential_table.specs.Searching.{IsSmallerBelow, IsNoGreaterFrom}
 use Rattle.potential_table.specs.declared.price_search.Tried.{Tried}
-use Rattle.potential_table.proofs.BoundLemmas.{timing_count}
+use Rattle.link_costs.proofs.BoundLemmas.{timing_count}
 use Rattle.potential_table.proofs.PriceLines.{smaller_below, no_greater_from, none_above, best_between}
 use Rattle.potential_table.proofs.price_search.sought.Given.{Over}
 use Rattle.potential_table.proofs.price_search.sought.Goals as goal

@@ -1,6 +1,6 @@
 use Rattle.std.proofs.Common.{◌≡◌, ◌<◌, ◌+◌, length, sym, arith}
 use Rattle.bound_specs.specs.Links.{Pricing}
-use Rattle.potential_table.proofs.BoundLemmas.{timing_count}
+use Rattle.link_costs.proofs.BoundLemmas.{timing_count}
 use Rattle.potential_table.proofs.PriceLines.{no_value}
 use Rattle.potential_table.proofs.price_search.tried_at.Goals as goal
 
