@@ -1,6 +1,6 @@
 -- The conditions on cells, links, potentials and bound together.
-use Rattle.std.proofs.Common.{◌≡◌, ◌+◌, ◌∙◌, ℕ, ℤ, zero, suc, List, Option, Some, None, Err, length, refl, sym, ap, subst, arith}
-use Rattle.std.specs.Prelude.{slice_index}
+use Rattle.std.proofs.Common.{◌≡◌, ◌+◌, ◌∙◌, ℕ, ℤ, zero, suc, List, Option, Some, None, Result, Ok, Err, length, refl, sym, ap, subst, arith}
+use Rattle.std.specs.Prelude.{slice_index, IfOk}
 use Rattle.std.specs.Option.{option_or}
 use Rattle.bound_specs.specs.Links.{Pricing}
 use Rattle.bound_specs.specs.Prices.{Prices, AreFor, priced_slack}
@@ -57,3 +57,8 @@ late_same cost r c low high least greatest h g =
     let cells = first_same (cells_refusal low high c.points) (cells_refusal least greatest c.points) (length r.steps + 1) (λ k. rw (down k, up k) refl) in
     ap (λ (o : Option Refused). option_or o (option_or (first_below (links_over (pricing_in cost r c) c.points) (length r.steps))
     (option_or (end_refusal c.points (length r.steps)) (bound_refusal c (priced_slack r (prices_in r c)))))) cells
+
+-- what holds anyhow holds of an answer
+pub ok_any : {A E : Type 0} {P : Type 0} (result : Result A E) → P → IfOk result (λ _. P)
+ok_any (Ok x) p = p
+ok_any (Err e) p = tt

@@ -1,2 +1,4 @@
 pub mod PointLemmas
 pub mod LateLemmas
+pub mod HoldLemmas
+pub mod ShowLemmas

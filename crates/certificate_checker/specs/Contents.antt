@@ -1,5 +1,5 @@
 -- What a certificate says of a run: its drive, its cells and their values, and its prices.
-use Rattle.std.specs.Prelude.{ℕ, ◌+◌, ◌-◌, ℤ, List, [], map, Option, None, if◌then◌else◌, nat_lt, length, slice_index_or}
+use Rattle.std.specs.Prelude.{ℕ, ◌+◌, ◌-◌, ℤ, List, [], ◌∷◌, map, Option, None, if◌then◌else◌, nat_lt, length, slice_index_or}
 use Rattle.bound_specs.specs.declared.Cell.{Cell}
 use Rattle.bound_specs.specs.Links.{Pricing}
 use Rattle.bound_specs.specs.Prices.{Prices}
@@ -33,6 +33,26 @@ cell_of p a = record { first = first_of p a; last = if nat_lt (a + 1) (length p.
 -- the potential of cell a of a point
 abbrev pub value_of : CertPoint → ℕ → Option ℤ
 value_of p a = (slice_index_or p.cells a no_cert_cell).potential
+
+-- cells with these first speeds: each ends right below the next one, the last at the greatest speed
+abbrev pub cells_up_to : ℕ → List CertCell → List Cell
+cells_up_to greatest [] = []
+cells_up_to greatest (c ∷ []) = record { first = c.first; last = greatest } ∷ []
+cells_up_to greatest (c ∷ d ∷ cs) = record { first = c.first; last = d.first - 1 } ∷ cells_up_to greatest (d ∷ cs)
+
+-- the cells of each point
+abbrev pub point_cells : CertPoint → List Cell
+point_cells p = cells_up_to p.greatest p.cells
+
+abbrev pub cell_lists : Certificate → List (List Cell)
+cell_lists c = map point_cells c.points
+
+-- the potentials of each point's cells
+abbrev pub point_values : CertPoint → List (Option ℤ)
+point_values p = map (λ k. k.potential) p.cells
+
+abbrev pub value_lists : Certificate → List (List (Option ℤ))
+value_lists c = map point_values c.points
 
 -- the prices, for the timing points of the rules
 abbrev pub prices_in : Rules → Certificate → Prices

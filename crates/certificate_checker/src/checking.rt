@@ -1,9 +1,11 @@
 //! The conditions of a certificate, in the order in which they are tried.
-ghost use Rattle.std.specs.Prelude.{◌≡◌, ◌+◌, ◌==◌, ◌&&◌, ◌^◌, ◌≤◌, ℕ, List, None, Some, length, map, All, IfOk, IfSome};
+ghost use Rattle.std.specs.Prelude.{◌≡◌, ◌+◌, ◌==◌, ◌&&◌, ◌^◌, ◌≤◌, ℕ, List, None, Some, length, map, All, IfOk, IfErr, IfSome};
 ghost use Rattle.std.specs.Int.RustNames.{unsigned_abs};
 ghost use Rattle.rail_base.specs.First.{first_below};
 ghost use Rattle.rail_specs.specs.Ranges.{AreRanges, no_narrowing};
 ghost use Rattle.dual_certificate.specs.Text.{IsCertificate, IsPoint};
+ghost use Rattle.certificate_checker.specs.declared.refused.Refused.TheVariants.{NoMemory};
+ghost use Rattle.certificate_checker.specs.Holds.{Holds, Shows};
 ghost use Rattle.certificate_checker.specs.Contents.{first_of, speeds_of, value_of};
 ghost use Rattle.certificate_checker.specs.Refusals.{bound_refusal, cells_refusal, counts_refusal, drive_refusal, early_refusal, end_refusal, late_refusal, Refuses};
 
@@ -168,6 +170,30 @@ fn check_late<C: StepCost>(
     }
 }
 
+/// The first condition that fails, of those before the cells and then of the others.
+fn first_broken<C: StepCost>(
+    alloc: Global,
+    rules: &Rules,
+    cost: &C,
+    certificate: &Certificate,
+) -> Result<(), Refused>
+    requires { IsCertificate certificate.now }
+    ensures early { IfSome (early_refusal (C.cost cost.now) rules.now certificate.now) (λ e. Refuses result (Some e)) }
+    ensures late { early_refusal (C.cost cost.now) rules.now certificate.now ≡ None → (least greatest : List ℕ) → AreRanges rules.now no_narrowing least greatest → Refuses result (late_refusal (C.cost cost.now) rules.now certificate.now least greatest) }
+    ensures ranges { IfOk result (λ _. (least : List ℕ) × (greatest : List ℕ) × AreRanges rules.now no_narrowing least greatest) }
+{
+    if let Some(refused) = broken_count(rules, certificate) {
+        return Err(refused);
+    }
+    if let Some(refused) = broken_drive(alloc, rules, cost, certificate)? {
+        return Err(refused);
+    }
+    match ranges(alloc, rules, &Narrow::none())? {
+        Some(ranges) => check_late(alloc, rules, cost, certificate, &ranges),
+        None => Err(Refused::Cells(0)),
+    }
+}
+
 /// Whether a certificate holds for the rules and the cost of work: `Ok` exactly where it does, and else the first condition that fails.
 ///
 /// The conditions in order: the counts of points and prices; the speeds are a drive on time; the energy is its cost; the cells of each point
@@ -180,18 +206,14 @@ pub fn check<C: StepCost>(
     certificate: &Certificate,
 ) -> Result<(), Refused>
     requires { IsCertificate certificate.now }
+    ensures holds { IfOk result (λ _. Holds (C.cost cost.now) rules.now certificate.now) }
+    ensures fails { IfErr result (λ e. (e ≡ NoMemory → ⊥) → Holds (C.cost cost.now) rules.now certificate.now → ⊥) }
+    // Its energy is that of a drive on time, and no drive on time costs less than its bound.
+    ensures shows { IfOk result (λ _. Shows (C.cost cost.now) rules.now certificate.now) }
     // Which condition fails first: of the counts, the drive and its energy, and then of the others.
     ensures early { IfSome (early_refusal (C.cost cost.now) rules.now certificate.now) (λ e. Refuses result (Some e)) }
     ensures late { early_refusal (C.cost cost.now) rules.now certificate.now ≡ None → (least greatest : List ℕ) → AreRanges rules.now no_narrowing least greatest → Refuses result (late_refusal (C.cost cost.now) rules.now certificate.now least greatest) }
 {
-    if let Some(refused) = broken_count(rules, certificate) {
-        return Err(refused);
-    }
-    if let Some(refused) = broken_drive(alloc, rules, cost, certificate)? {
-        return Err(refused);
-    }
-    match ranges(alloc, rules, &Narrow::none())? {
-        Some(ranges) => check_late(alloc, rules, cost, certificate, &ranges),
-        None => Err(Refused::Cells(0)),
-    }
+    rules.known();
+    first_broken(alloc, rules, cost, certificate)
 }

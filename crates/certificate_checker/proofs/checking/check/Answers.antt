@@ -1,16 +1,19 @@
-use Rattle.std.proofs.Common.{subst}
-use Rattle.rail_specs.specs.Ranges.{AreRanges}
-use Rattle.rail_specs.specs.declared.Narrow.{Narrow}
-use Rattle.certificate_checker.specs.Refusals.{Refuses}
-use Rattle.certificate_checker.proofs.LateLemmas.{late_same}
+use Rattle.certificate_checker.proofs.HoldLemmas.{ok_holds, err_fails}
+use Rattle.certificate_checker.proofs.ShowLemmas.{ok_shows}
 use Rattle.certificate_checker.proofs.checking.check.Goals as goal
 
-pub returns-in-Some-3-clause-late : goal.returns-in-Some-3-clause-late
-returns-in-Some-3-clause-late g c = λ early least greatest h.
-    let cost = g.C.StepCost.cost c.args.cost.now in
-    let r = c.args.rules.now in
-    let low = c.in-Some-3.ranges.low in
-    let high = c.in-Some-3.ranges.high in
-    let found = rw c.in-Some-3.is at c.in_ok-ranges.ensures.some in
-    let exact = subst (λ (n : Narrow). AreRanges r n low high) c.none.ensures found in
-    subst (Refuses c.check_late.result) (late_same cost r c.args.certificate.now low high least greatest exact h) c.check_late.ensures
+pub returns-clause-holds : goal.returns-clause-holds
+returns-clause-holds g c =
+    ok_holds (g.C.StepCost.cost c.args.cost.now) c.args.rules.now c.args.certificate.now c.known.ensures c.requires c.first_broken.result c.first_broken.ensures.early c.first_broken.ensures.late
+    c.first_broken.ensures.ranges
+
+pub returns-clause-fails : goal.returns-clause-fails
+returns-clause-fails g c =
+    err_fails (g.C.StepCost.cost c.args.cost.now) c.args.rules.now c.args.certificate.now c.requires c.first_broken.result c.first_broken.ensures.late
+
+pub returns-clause-shows : goal.returns-clause-shows
+returns-clause-shows g c =
+    ok_shows (g.C.StepCost.cost c.args.cost.now) c.args.rules.now c.args.certificate.now (g.met.C.StepCost.grows c.args.cost.now) (g.met.C.StepCost.within c.args.cost.now) c.known.ensures c.requires
+    c.first_broken.result
+    (ok_holds (g.C.StepCost.cost c.args.cost.now) c.args.rules.now c.args.certificate.now c.known.ensures c.requires c.first_broken.result c.first_broken.ensures.early c.first_broken.ensures.late
+    c.first_broken.ensures.ranges)
