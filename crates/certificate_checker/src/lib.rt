@@ -7,3 +7,6 @@ mod refused;
 
 pub use checking::check;
 pub use refused::{Field, Refused};
+
+#[cfg(test)]
+mod tests;
