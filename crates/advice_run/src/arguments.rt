@@ -11,6 +11,7 @@ use crate::program::run;
 use crate::words::Words;
 use command_files::status;
 use edge_io::{Shelf, Sink};
+use proposers::Proposer;
 use std::alloc::{AllocError, Global};
 use std::io::ErrorKind;
 use std::sync::ledger::Ledger;
@@ -49,6 +50,7 @@ pub fn run_arguments<S: Shelf, K: Sink, L: Ledger>(
     args: io::Result<env::Args>,
     shelf: &mut S,
     sink: &mut K,
+    proposers: Vec<Box<dyn Proposer>>,
     steps: &mut Steps<L>,
 ) -> u8
     ensures memory { IfErr args (λ e. error_kind e ≡ ErrorKind.OutOfMemory → result ≡ 8) }
@@ -77,7 +79,7 @@ pub fn run_arguments<S: Shelf, K: Sink, L: Ledger>(
         → S.faults shelf.new n ≡ S.faults shelf.old n }
 {
     match words_of(alloc, args) {
-        Ok(words) => run(alloc, &words, shelf, sink, steps),
+        Ok(words) => run(alloc, &words, shelf, sink, proposers, steps),
         Err(_) => status::NO_MEMORY,
     }
 }

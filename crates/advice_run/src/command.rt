@@ -11,6 +11,7 @@ use crate::usage::usage;
 use crate::words::Words;
 use command_files::Answer;
 use edge_io::Shelf;
+use proposers::Proposer;
 use std::alloc::{AllocError, Global};
 use std::sync::ledger::Ledger;
 use step_energy::Steps;
@@ -40,11 +41,12 @@ fn first_word(words: &Words) -> FirstWord
     }
 }
 
-/// The answer to the words, over what the shelf holds.
+/// The answer to the words, over what the shelf holds. The boxes propose drives.
 pub fn answer<S: Shelf, L: Ledger>(
     alloc: Global,
     words: &Words,
     shelf: &mut S,
+    boxes: &mut Vec<Box<dyn Proposer>>,
     steps: &mut Steps<L>,
 ) -> Result<Answer, AllocError>
     ensures may { IfOk result (λ a. MayWrite (command_of words.now) (S.contents shelf.old) (S.faults shelf.old)
@@ -54,8 +56,8 @@ pub fn answer<S: Shelf, L: Ledger>(
     ensures others { (n : List ℕ) → (Names (command_of words.now) n → ⊥) → S.faults shelf.new n ≡ S.faults shelf.old n }
 {
     match first_word(words) {
-        FirstWord::Route => answer_route_words(alloc, words, shelf, steps),
-        FirstWord::Plan => answer_plan_words(alloc, words, shelf, steps),
+        FirstWord::Route => answer_route_words(alloc, words, shelf, boxes, steps),
+        FirstWord::Plan => answer_plan_words(alloc, words, shelf, boxes, steps),
         FirstWord::Other => usage(alloc),
     }
 }
@@ -65,6 +67,7 @@ fn answer_route_words<S: Shelf, L: Ledger>(
     alloc: Global,
     words: &Words,
     shelf: &mut S,
+    boxes: &mut Vec<Box<dyn Proposer>>,
     steps: &mut Steps<L>,
 ) -> Result<Answer, AllocError>
     ensures may { IfOk result (λ a. MayWrite (command_by FirstWord.Route words.now) (S.contents shelf.old) (S.faults shelf.old)
@@ -74,7 +77,7 @@ fn answer_route_words<S: Shelf, L: Ledger>(
     ensures others { (n : List ℕ) → (Names (command_by FirstWord.Route words.now) n → ⊥) → S.faults shelf.new n ≡ S.faults shelf.old n }
 {
     match read_route_words(alloc, words)? {
-        Some(asked) => answer_route(alloc, &asked, shelf, steps),
+        Some(asked) => answer_route(alloc, &asked, shelf, boxes, steps),
         None => usage(alloc),
     }
 }
@@ -84,6 +87,7 @@ fn answer_plan_words<S: Shelf, L: Ledger>(
     alloc: Global,
     words: &Words,
     shelf: &mut S,
+    boxes: &mut Vec<Box<dyn Proposer>>,
     steps: &mut Steps<L>,
 ) -> Result<Answer, AllocError>
     ensures may { IfOk result (λ a. MayWrite (command_by FirstWord.Plan words.now) (S.contents shelf.old) (S.faults shelf.old)
@@ -93,7 +97,7 @@ fn answer_plan_words<S: Shelf, L: Ledger>(
     ensures others { (n : List ℕ) → (Names (command_by FirstWord.Plan words.now) n → ⊥) → S.faults shelf.new n ≡ S.faults shelf.old n }
 {
     match read_plan_words(alloc, words)? {
-        Some(asked) => answer_plan(alloc, &asked, shelf, steps),
+        Some(asked) => answer_plan(alloc, &asked, shelf, boxes, steps),
         None => usage(alloc),
     }
 }

@@ -12,47 +12,58 @@ use command_files::{Answer, File, FileList, Stage};
 use edge_io::Shelf;
 use line_file::{Line, Service};
 use plan_files::{LineFile, ServiceFile, TrainFile, fresh_rules};
+use planner::Options;
+use proposers::Proposer;
+use rail_base::Traction;
 use std::alloc::{AllocError, Global};
 use std::sync::ledger::Ledger;
 use step_energy::Steps;
 use train_file::Train;
 
-/// The answer to a line, a train and a service.
+/// The answer to a line, a train and a service. The boxes propose drives.
 fn joined_answer<L: Ledger>(
     alloc: Global,
     asked: &PlanWords,
     line: &Line,
     train: &Train,
     service: &Service,
+    boxes: &mut Vec<Box<dyn Proposer>>,
     steps: &mut Steps<L>,
 ) -> Result<Answer, AllocError>
     requires line { IsLine line.now }
     requires train { IsTrain train.now }
     requires service { IsService service.now }
-    ensures { IfOk result (λ a. IsJoinedAnswer line.now train.now service.now asked.now.step asked.now.tolerance
+    ensures { IfOk result (λ a. IsJoinedAnswer line.now train.now service.now asked.now.step asked.now.splits asked.now.tolerance
         (steps.new - steps.old) a.status a.text.items) }
 {
     match fresh_rules(alloc, line, train, service, asked.step, steps)? {
-        Stage::Read(rules) => rules_answer(alloc, &rules, asked.tolerance),
+        Stage::Read(rules) => {
+            let options = Options {
+                splits: asked.splits,
+                tolerance: asked.tolerance,
+            };
+            rules_answer(alloc, &rules, &Traction, options, boxes)
+        }
         Stage::Ends(answer) => Ok(answer),
     }
 }
 
-/// The answer to `plan`, over what the shelf holds under the names of its files.
+/// The answer to `plan`, over what the shelf holds under the names of its files. The boxes propose drives.
 pub fn answer_plan<S: Shelf, L: Ledger>(
     alloc: Global,
     asked: &PlanWords,
     shelf: &mut S,
+    boxes: &mut Vec<Box<dyn Proposer>>,
     steps: &mut Steps<L>,
 ) -> Result<Answer, AllocError>
     ensures may { IfOk result (λ a.
-        MayWrite (Plan asked.now.line.now asked.now.train.now asked.now.service.now asked.now.step asked.now.tolerance)
+        MayWrite (Plan asked.now.line.now asked.now.train.now asked.now.service.now asked.now.step asked.now.splits asked.now.tolerance)
         (S.contents shelf.old) (S.faults shelf.old) (S.faults shelf.new)
         (steps.new - steps.old) a.status a.text.items) }
     ensures kept { (n : List ℕ) → S.contents shelf.new n ≡ S.contents shelf.old n }
     ensures later { (n : List ℕ) → S.faults shelf.old n ≤ S.faults shelf.new n }
     ensures others { (n : List ℕ) →
-        (Names (Plan asked.now.line.now asked.now.train.now asked.now.service.now asked.now.step asked.now.tolerance) n → ⊥)
+        (Names (Plan asked.now.line.now asked.now.train.now asked.now.service.now asked.now.step asked.now.splits asked.now.tolerance) n → ⊥)
         → S.faults shelf.new n ≡ S.faults shelf.old n }
 {
     let line = File {
@@ -70,7 +81,7 @@ pub fn answer_plan<S: Shelf, L: Ledger>(
     match (line, (train, (service, ()))).read_all(alloc, shelf, steps)? {
         Stage::Read(said) => {
             let (line, train, service) = (&said.0, &said.1.0, &said.1.1.0);
-            joined_answer(alloc, asked, line, train, service, steps)
+            joined_answer(alloc, asked, line, train, service, boxes, steps)
         }
         Stage::Ends(answer) => Ok(answer),
     }

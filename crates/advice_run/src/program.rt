@@ -9,6 +9,7 @@ use crate::command::answer;
 use crate::words::Words;
 use command_files::status;
 use edge_io::{Shelf, Sink, put_all};
+use proposers::Proposer;
 use std::alloc::Global;
 use std::sync::ledger::Ledger;
 use step_energy::Steps;
@@ -16,8 +17,8 @@ use step_energy::Steps;
 /// Does all that the program does: reads what the words ask for, fetches the files that they name, and writes one text.
 /// It gives the status that the program ends with:
 ///
-/// - 0: the greatest drive is on time, and the gap between its energy and the bound is within the tolerance;
-/// - 1: the greatest drive is on time, and the gap is wider;
+/// - 0: a drive is on time, and the gap between its energy and the bound is within the tolerance;
+/// - 1: a drive is on time, and the gap is wider;
 /// - 2: the words ask for nothing, and the usage is written;
 /// - 3: a file is too long or is refused, at its first fault, or the rules that the files give together are;
 /// - 4: there is no drive;
@@ -26,12 +27,14 @@ use step_energy::Steps;
 /// - 7: the text, or a part of it, can't be written;
 /// - 8: there is no memory, and nothing is written.
 ///
-/// `steps` counts the rows of steps that are made: where rules are answered, as many as they have.
+/// The boxes propose drives for every plan of the run. What they offer is judged, so that any boxes may be handed in; after a plan those of
+/// which nothing was taken are dropped. `steps` counts the rows of steps that are made: where rules are answered, as many as they have.
 pub fn run<S: Shelf, K: Sink, L: Ledger>(
     alloc: Global,
     words: &Words,
     shelf: &mut S,
     sink: &mut K,
+    proposers: Vec<Box<dyn Proposer>>,
     steps: &mut Steps<L>,
 ) -> u8
     // Where no put failed the whole text is written. It is the usage, the answer to the files, or a read fault whose
@@ -56,7 +59,8 @@ pub fn run<S: Shelf, K: Sink, L: Ledger>(
     ensures kept { (n : List ℕ) → S.contents shelf.new n ≡ S.contents shelf.old n }
     ensures others { (n : List ℕ) → (Names (command_of words.now) n → ⊥) → S.faults shelf.new n ≡ S.faults shelf.old n }
 {
-    match answer(alloc, words, shelf, steps) {
+    let mut boxes = proposers;
+    match answer(alloc, words, shelf, &mut boxes, steps) {
         Ok(answer) => match put_all(sink, answer.text.as_slice()) {
             Ok(()) => answer.status,
             Err(_) => status::WRITE_FAULT,

@@ -9,22 +9,26 @@ use crate::rules::rules_answer;
 use command_files::{Answer, File, FileList, Stage};
 use edge_io::Shelf;
 use plan_files::RouteFile;
+use planner::Options;
+use proposers::Proposer;
+use rail_base::Traction;
 use std::alloc::{AllocError, Global};
 use std::sync::ledger::Ledger;
 use step_energy::Steps;
 
-/// The answer to `route`, over what the shelf holds under the name of its file.
+/// The answer to `route`, over what the shelf holds under the name of its file. The boxes propose drives.
 pub fn answer_route<S: Shelf, L: Ledger>(
     alloc: Global,
     asked: &RouteWords,
     shelf: &mut S,
+    boxes: &mut Vec<Box<dyn Proposer>>,
     steps: &mut Steps<L>,
 ) -> Result<Answer, AllocError>
-    ensures may { IfOk result (λ a. MayWrite (Route asked.now.file.now asked.now.tolerance)
+    ensures may { IfOk result (λ a. MayWrite (Route asked.now.file.now asked.now.splits asked.now.tolerance)
         (S.contents shelf.old) (S.faults shelf.old) (S.faults shelf.new) (steps.new - steps.old) a.status a.text.items) }
     ensures kept { (n : List ℕ) → S.contents shelf.new n ≡ S.contents shelf.old n }
     ensures later { (n : List ℕ) → S.faults shelf.old n ≤ S.faults shelf.new n }
-    ensures others { (n : List ℕ) → (Names (Route asked.now.file.now asked.now.tolerance) n → ⊥)
+    ensures others { (n : List ℕ) → (Names (Route asked.now.file.now asked.now.splits asked.now.tolerance) n → ⊥)
         → S.faults shelf.new n ≡ S.faults shelf.old n }
 {
     let route = File {
@@ -32,7 +36,13 @@ pub fn answer_route<S: Shelf, L: Ledger>(
         name: asked.file,
     };
     match (route, ()).read_all(alloc, shelf, steps)? {
-        Stage::Read(said) => rules_answer(alloc, &said.0, asked.tolerance),
+        Stage::Read(said) => {
+            let options = Options {
+                splits: asked.splits,
+                tolerance: asked.tolerance,
+            };
+            rules_answer(alloc, &said.0, &Traction, options, boxes)
+        }
         Stage::Ends(answer) => Ok(answer),
     }
 }

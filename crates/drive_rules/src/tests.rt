@@ -174,9 +174,14 @@ fn judges_the_route_of_two_steps(rt: HostRuntime) {
     );
 }
 
+/// The rules of the route of two steps.
+fn route_rules(alloc: Global) -> Option<Rules> {
+    read_with::<Brand>(alloc, ROUTE, Blank::new(1))
+}
+
 #[test]
 fn judges_what_braking_gives_back(rt: HostRuntime) {
-    let Some(rules) = read_with::<Brand>(rt.alloc(), ROUTE, Blank::new(1)) else {
+    let Some(rules) = route_rules(rt.alloc()) else {
         panic!(rt; "the route cannot be read");
     };
     assert!(rt; rules.length() == 0);

@@ -1,5 +1,5 @@
 -- What a plan is.
-use Rattle.std.specs.Prelude.{ℕ, ◌+◌, ◌<◌, ◌≤◌, ◌≡◌, ◌⊎◌, ◌↔◌, IsTrue, ℤ, List, Option, Some, length, slice_index_or, ⊥}
+use Rattle.std.specs.Prelude.{ℕ, ◌+◌, ◌<◌, ◌≤◌, ◌≡◌, ◌⊎◌, ◌↔◌, IsTrue, ℤ, List, Option, Some, length, slice_index_or}
 use Rattle.bound_specs.specs.declared.Cell.{Cell}
 use Rattle.rail_specs.specs.Rules.{Rules, NoDrive}
 use Rattle.rail_specs.specs.Cost.{cost_of, IsBound, GapMet}
@@ -63,9 +63,9 @@ IsAnswer cost r budget tolerance AnswerNoDrive = NoDrive r
 IsAnswer cost r budget tolerance (AnswerLate timing arrival) = IsLate r timing arrival
 IsAnswer cost r budget tolerance (AnswerDrive p) = IsSomePlan cost r budget tolerance p
 
--- the boxes were begun and asked for their drives, each place by place, where the answer is a plan; and else none of them was
-abbrev pub AreAsked : (ℤ → ℤ) → Rules → List State → List State → Answer → Type 0
-AreAsked cost r before now AnswerNoDrive = now ≡ before
-AreAsked cost r before now (AnswerLate timing arrival) = now ≡ before
-AreAsked cost r before now (AnswerDrive p) =
-    (k : ℕ) → k < length now → Improves cost r p.drive (slice_index_or before k no_state) (slice_index_or now k no_state)
+-- so many boxes were begun and asked for their drives, each place by place, where the answer is a plan; and else none of them was
+abbrev pub AreAsked : (ℤ → ℤ) → Rules → ℕ → List State → List State → Answer → Type 0
+AreAsked cost r boxes before now AnswerNoDrive = now ≡ before
+AreAsked cost r boxes before now (AnswerLate timing arrival) = now ≡ before
+AreAsked cost r boxes before now (AnswerDrive p) =
+    (k : ℕ) → k < boxes → Improves cost r p.drive (slice_index_or before k no_state) (slice_index_or now k no_state)

@@ -1,5 +1,5 @@
 -- Cells that a search for a bound works on.
-use Rattle.std.specs.Prelude.{ℕ, ◌+◌, ◌*◌, ◌≤◌, ◌≡◌, ℤ, List, Option, Some, length, map, zip, ⊥}
+use Rattle.std.specs.Prelude.{ℕ, ◌+◌, ◌*◌, ◌≤◌, ◌≡◌, ℤ, List, Option, Some, None, length, map, zip, ⊤}
 use Rattle.bound_specs.specs.declared.Cell.{Cell}
 use Rattle.rail_specs.specs.Rules.{Rules}
 use Rattle.rail_specs.specs.Ranges.{AreRanges, no_narrowing}
@@ -22,13 +22,14 @@ pub record AreSplit (r : Rules) (budget : ℕ) (cells : List (List Cell)) : Type
   pub times : ℕ
   pub are_whole : AreWhole r whole
   pub are_even : AreEven whole budget even times
+  pub halved : ComeBySplits whole even
   pub split : ComeBySplits even cells
   pub within : cell_count cells ≤ length r.steps + 1 + budget
   pub fit : CellsFit r cells
   pub points : length cells ≡ length r.steps + 1
   pub start : length (cells_of cells 0) ≡ 1
 
--- the gap from an energy to a chain value is met; none stands for no chain
+-- the gap from an energy to a chain value is met; none, where there is no chain, stands above every number
 abbrev pub IsMet : ℤ → ℕ → Option ℤ → Type 0
 IsMet energy tolerance (Some value) = GapMet energy value tolerance
-IsMet energy tolerance None = ⊥
+IsMet energy tolerance None = ⊤

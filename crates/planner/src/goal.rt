@@ -19,14 +19,14 @@ pub(crate) struct Goal {
 }
 
 impl Goal {
-    /// Whether the gap to a chain value is met. None stands for no chain.
+    /// Whether the gap to a chain value is met. None, where there is no chain, stands above every number.
     pub(crate) fn is_met(&self, value: Option<i128>) -> bool
         requires { IfSome value (λ v. unsigned_abs v ≤ 2 ^ 99) }
         ensures { IsTrue result ↔ IsMet self.now.energy self.now.tolerance value }
     {
         match value {
             Some(bound) => is_gap_met(self.energy, bound, self.tolerance),
-            None => false,
+            None => true,
         }
     }
 }

@@ -1,5 +1,5 @@
 //! The plan of a run.
-ghost use Rattle.std.specs.Prelude.{◌≡◌, ◌≢◌, ◌≤◌, ◌+◌, ◌⊎◌, length, map, IfOk, EachIndex};
+ghost use Rattle.std.specs.Prelude.{◌≡◌, ◌≤◌, ◌+◌, ◌^◌, ◌⊎◌, length, map, IfOk, EachIndex};
 ghost use Rattle.std.specs.List.{slice_index_or};
 ghost use Rattle.rail_specs.specs.Rules.{IsDrive};
 ghost use Rattle.rail_specs.specs.Cost.{cost_of};
@@ -43,7 +43,7 @@ pub fn plan<C: StepCost>(
     requires splits { options.splits ≤ 50000 }
     requires tolerance { options.tolerance ≤ 1000 }
     ensures answer { IfOk result (IsAnswer (C.cost cost.now) rules.now options.splits options.tolerance) }
-    ensures asked { IfOk result (AreAsked (C.cost cost.now) rules.now
+    ensures asked { IfOk result (AreAsked (C.cost cost.now) rules.now (length boxes.new.items)
         (map (λ b. state (offers b) (takes b) (begins b)) boxes.old.items)
         (map (λ b. state (offers b) (takes b) (begins b)) boxes.new.items)) }
     ensures len { length boxes.new.items ≡ length boxes.old.items }
@@ -78,7 +78,8 @@ fn plan_from<C: StepCost>(
 {
     let mut drive = drive;
     improve(alloc, boxes, rules, cost, &mut drive)?;
-    planned(alloc, rules, cost, options, drive)
+    let plan = planned(alloc, rules, cost, options, drive)?;
+    Ok(plan)
 }
 
 /// The plan with a drive. Or want of memory.
@@ -98,12 +99,14 @@ fn planned<C: StepCost>(
     rules.known();
     splits_known();
     finer_cells_bound_more(rules);
+    let energy = cost_of_drive(rules, cost, &drive);
     let goal = Goal {
-        energy: cost_of_drive(rules, cost, &drive),
+        energy,
         tolerance: options.tolerance,
         splits: options.splits,
     };
-    let Work { cells, valued } = found_work(alloc, rules, cost, goal, drive.speeds())?;
+    let work = found_work(alloc, rules, cost, goal, drive.speeds())?;
+    let Work { cells, valued } = work;
     relaxed_costs_known(rules, &valued.prices);
     let Some(bound) = valued.value else {
         unreachable!();
@@ -111,7 +114,7 @@ fn planned<C: StepCost>(
     let splits = (cells.count() - rules.points()) as u32;
     Ok(Plan {
         drive,
-        cost: goal.energy,
+        cost: energy,
         bound,
         prices: valued.prices,
         cells,

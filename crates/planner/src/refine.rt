@@ -1,7 +1,7 @@
 //! The rounds of splits.
 ghost use Rattle.std.specs.Prelude.{◌≡◌, ◌≤◌, ◌+◌, List, length, IfOk};
 ghost use Rattle.bound_specs.specs.declared.Cell.{Cell};
-ghost use Rattle.bound_specs.specs.Cells.{cell_count};
+ghost use Rattle.bound_specs.specs.Cells.{cell_count, cells_of};
 ghost use Rattle.bound_specs.specs.Renewal.{SameFrom};
 ghost use Rattle.price_rounds.specs.Rounds.{IsValued};
 ghost use Rattle.planner.specs.Works.{AreSplit};
@@ -124,6 +124,7 @@ fn renewed<C: StepCost>(
     last: usize,
 ) -> Result<Valued, AllocError>
     requires points { length cells.now ≡ length rules.now.steps + 1 }
+    requires start { length (cells_of cells.now 0) ≡ 1 }
     requires last { last + 2 ≤ length cells.now }
     requires before { (before : List (List Cell)) × SameFrom (last + 1) before cells.now × IsValued (C.cost cost.now) rules.now before valued }
     ensures { IfOk result (λ valued. IsValued (C.cost cost.now) rules.now cells.now valued) }

@@ -28,7 +28,8 @@ fn whole_cells(alloc: Global, rules: &Rules, drive: &[u16]) -> Result<Cells, All
         unreachable!();
     };
     let pairs = found.pairs(alloc)?;
-    Cells::whole(alloc, pairs.as_slice())
+    let cells = Cells::whole(alloc, pairs.as_slice())?;
+    Ok(cells)
 }
 
 /// The even cells for a budget of splits, where there is a drive. Or want of memory.

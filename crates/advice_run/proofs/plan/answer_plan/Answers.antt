@@ -11,13 +11,13 @@ returns-in-Read-clause-may g c =
     let says = rw c.in-Read.is at c.in_ok-said.ensures.stage in
     let counted = rw c.in-Read.is at c.in_ok-said.ensures.counted in
     ok_map c.joined_answer.result
-    (λ (a : Answer). IsJoinedAnswer said.0 said.1.0 said.1.1.0 w.step w.tolerance
+    (λ (a : Answer). IsJoinedAnswer said.0 said.1.0 said.1.1.0 w.step w.splits w.tolerance
     (c.joined_answer.new.steps - c.read_all.new.steps) a.status a.text.items) _
     (λ a h. inr (
       said,
       (
         says,
-        joined_answered said.0 said.1.0 said.1.1.0 w.step w.tolerance c.args.steps.now c.read_all.new.steps
+        joined_answered said.0 said.1.0 said.1.1.0 w.step w.splits w.tolerance c.args.steps.now c.read_all.new.steps
             c.joined_answer.new.steps a.status a.text.items counted h,
       ),
     ))

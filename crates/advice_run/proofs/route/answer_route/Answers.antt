@@ -10,12 +10,12 @@ returns-in-Read-clause-may g c =
     let says = rw c.in-Read.is at c.in_ok-said.ensures.stage in
     let counted = rw c.in-Read.is at c.in_ok-said.ensures.counted in
     ok_map c.rules_answer.result
-    (λ (a : Answer). IsPlanAnswer traction_cost c.in-Read.said.0 c.args.asked.now.tolerance a.status a.text.items) _
+    (λ (a : Answer). IsPlanAnswer traction_cost c.in-Read.said.0 c.args.asked.now.splits c.args.asked.now.tolerance a.status a.text.items) _
     (λ a h. inr (
       c.in-Read.said,
       (
         says,
-        rules_answered c.args.asked.now.tolerance c.args.steps.now c.read_all.new.steps
+        rules_answered c.args.asked.now.splits c.args.asked.now.tolerance c.args.steps.now c.read_all.new.steps
             c.in-Read.said.0 a.status a.text.items counted h,
       ),
     ))
