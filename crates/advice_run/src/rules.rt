@@ -63,7 +63,16 @@ fn plan_answer<C: StepCost>(
     let _ = options;
     let cells = plan.cells.count() as u64;
     let speeds = plan.drive.speeds();
-    let text = report(alloc, rules, speeds, plan.cost, plan.bound, plan.met, cells, plan.splits)?;
+    let text = report(
+        alloc,
+        rules,
+        speeds,
+        plan.cost,
+        plan.bound,
+        plan.met,
+        cells,
+        plan.splits,
+    )?;
     let status = if plan.met {
         status::GAP_MET
     } else {

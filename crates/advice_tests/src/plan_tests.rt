@@ -5,7 +5,7 @@ use std::alloc::{AllocError, Global};
 use std::test::Fail;
 
 const USAGE: &str =
-    "usage: advice route FILE [--tolerance N]\n       advice plan LINE TRAIN SERVICE [--step N] [--tolerance N]\n";
+    "usage: advice route FILE [--splits N] [--tolerance N]\n       advice plan LINE TRAIN SERVICE [--step N] [--splits N] [--tolerance N]\n";
 
 const LINE: &str = "kind,from,to,value\nlimit,0,200,36\ngradient,0,200,0\n";
 
@@ -44,14 +44,14 @@ fn files_are_joined_and_planned(rt: HostRuntime) -> Result<(), Fail> {
         (
             LINE,
             SERVICE,
-            1,
-            "advice 1\ngap open\nenergy 10200000000000\nkilojoules 5100\nbound 0\nphase 0 100 power 0 1000\nphase 100 200 brake 1000 0\ntime 200 40000 50000\nspeeds 0 1000 0\nend\n",
+            0,
+            "advice 1\ngap met\nenergy 6600000000000\nkilojoules 3300\nbound 6599679787200\ncells 1002\nsplits 999\nphase 0 100 part 0 800\nphase 100 200 brake 800 0\ntime 200 50000 50000\nspeeds 0 800 0\nend\n",
         ),
         (
             long,
             "place,name,dwell,latest\n0,A,,\n200,B,30,\n400,C,,110\n",
-            1,
-            "advice 1\ngap open\nenergy 20400000000000\nkilojoules 10200\nbound 0\nphase 0 100 power 0 1000\nphase 100 200 brake 1000 0\nphase 200 300 power 0 1000\nphase 300 400 brake 1000 0\ntime 400 110000 110000\nspeeds 0 1000 0 1000 0\nend\n",
+            0,
+            "advice 1\ngap met\nenergy 20400000000000\nkilojoules 10200\nbound 20320080000000\ncells 515\nsplits 510\nphase 0 100 power 0 1000\nphase 100 200 brake 1000 0\nphase 200 300 power 0 1000\nphase 300 400 brake 1000 0\ntime 400 110000 110000\nspeeds 0 1000 0 1000 0\nend\n",
         ),
         (
             long,
@@ -62,8 +62,8 @@ fn files_are_joined_and_planned(rt: HostRuntime) -> Result<(), Fail> {
         (
             LINE,
             "place,name,dwell,latest\n0,A,,\n100,M,,20\n200,B,,200\n",
-            1,
-            "advice 1\ngap open\nenergy 10200000000000\nkilojoules 5100\nbound 0\nphase 0 100 power 0 1000\nphase 100 200 brake 1000 0\ntime 100 20000 20000\ntime 200 40000 200000\nspeeds 0 1000 0\nend\n",
+            0,
+            "advice 1\ngap met\nenergy 10200000000000\nkilojoules 5100\nbound 10200000000000\ncells 1002\nsplits 999\nphase 0 100 power 0 1000\nphase 100 200 brake 1000 0\ntime 100 20000 20000\ntime 200 40000 200000\nspeeds 0 1000 0\nend\n",
         ),
     ];
     for (line, service, status, text) in cases {

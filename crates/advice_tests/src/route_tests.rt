@@ -41,15 +41,15 @@ fn routes_are_answered(rt: HostRuntime) -> Result<(), Fail> {
             51_000,
             50,
             &[LEVEL, LEVEL],
-            1,
-            "advice 1\ngap open\nenergy 10200000000000\nkilojoules 5100\nbound 0\nphase 0 100 power 0 1000\nphase 100 200 brake 1000 0\ntime 200 40000 50000\nspeeds 0 1000 0\nend\n",
+            0,
+            "advice 1\ngap met\nenergy 6600000000000\nkilojoules 3300\nbound 6599679787200\ncells 1002\nsplits 999\nphase 0 100 part 0 800\nphase 100 200 brake 800 0\ntime 200 50000 50000\nspeeds 0 800 0\nend\n",
         ),
         (
             51_000,
             50,
             &["100 -600 1000", "100 -600 1000"],
             0,
-            "advice 1\ngap met\nenergy 0\nkilojoules 0\nbound 0\nphase 0 200 brake 0 0\ntime 200 43574 50000\nspeeds 0 918 0\nend\n",
+            "advice 1\ngap met\nenergy 0\nkilojoules 0\nbound 0\ncells 920\nsplits 917\nphase 0 200 brake 0 0\ntime 200 43574 50000\nspeeds 0 918 0\nend\n",
         ),
         (
             51_000,
@@ -77,7 +77,7 @@ fn routes_are_answered(rt: HostRuntime) -> Result<(), Fail> {
             60,
             &[LEVEL, LEVEL, LEVEL],
             1,
-            "advice 1\ngap open\nenergy 10400000000000\nkilojoules 5200\nbound 0\nphase 0 100 power 0 1000\nphase 100 200 hold 1000 1000\nphase 200 300 brake 1000 0\ntime 300 50000 60000\nspeeds 0 1000 1000 0\nend\n",
+            "advice 1\ngap open\nenergy 7338890000000\nkilojoules 3670\nbound 7244910465104\ncells 2002\nsplits 1998\nphase 0 200 part 0 833\nphase 200 300 brake 833 0\ntime 300 59989 60000\nspeeds 0 834 833 0\nend\n",
         ),
         (51_000, 50, &[LEVEL], 3, "refused route range 8\n"),
     ];
@@ -90,30 +90,32 @@ fn routes_are_answered(rt: HostRuntime) -> Result<(), Fail> {
     Ok(())
 }
 
-/// The steps of a route, and the report of its greatest drive.
-fn phased(case: u32) -> (&'static [&'static str], &'static str) {
+/// The steps of a route, and the status and the report of its plan.
+fn phased(case: u32) -> (&'static [&'static str], u8, &'static str) {
     match case {
-        // Rolls from 1,000 to 989 cm/s: one more would take traction.
+        // The last limit is lower than the rest.
         0 => (
             &[LEVEL, LEVEL, "100 0 989"],
-            "advice 1\ngap open\nenergy 10200000000000\nkilojoules 5100\nbound 0\nphase 0 100 power 0 1000\nphase 100 200 coast 1000 989\nphase 200 300 brake 989 0\ntime 300 50279 60000\nspeeds 0 1000 989 0\nend\n",
+            1,
+            "advice 1\ngap open\nenergy 7338890000000\nkilojoules 3670\nbound 7244910465104\ncells 1991\nsplits 1987\nphase 0 200 part 0 833\nphase 200 300 brake 833 0\ntime 300 59989 60000\nspeeds 0 834 833 0\nend\n",
         ),
-        // Up to a limit, with less traction than there is; 5,090.005 kJ.
+        // Up to a speed below the limit, with less traction than there is; 2,324.445 kJ.
         _ => (
             &["100 0 999", "100 0 999"],
-            "advice 1\ngap open\nenergy 10180010000000\nkilojoules 5091\nbound 0\nphase 0 100 part 0 999\nphase 100 200 brake 999 0\ntime 200 40042 60000\nspeeds 0 999 0\nend\n",
+            0,
+            "advice 1\ngap met\nenergy 4648890000000\nkilojoules 2325\nbound 4644446666660\ncells 1001\nsplits 998\nphase 0 100 part 0 667\nphase 100 200 brake 667 0\ntime 200 59972 60000\nspeeds 0 667 0\nend\n",
         ),
     }
 }
 
 #[test]
-fn coasting_part_traction_and_begun_kilojoules_are_told(rt: HostRuntime) -> Result<(), Fail> {
+fn part_traction_and_begun_kilojoules_are_told(rt: HostRuntime) -> Result<(), Fail> {
     let alloc = rt.alloc();
     for case in 0..2 {
-        let (steps, text) = phased(case);
+        let (steps, status, text) = phased(case);
         let route = route_of(alloc, 51_000, 60, steps)?;
         let got = route_ended(alloc, route.as_bytes())?;
-        assert_eq!(rt; got.status, 1);
+        assert_eq!(rt; got.status, status);
         assert_eq!(rt; got.text.as_str(), text);
     }
     Ok(())
@@ -201,7 +203,7 @@ fn words_that_ask_for_nothing_are_answered_by_the_usage(rt: HostRuntime) -> Resu
         assert_eq!(rt; got.status, 2);
         assert_eq!(rt;
             got.text.as_str(),
-            "usage: advice route FILE [--tolerance N]\n       advice plan LINE TRAIN SERVICE [--step N] [--tolerance N]\n"
+            "usage: advice route FILE [--splits N] [--tolerance N]\n       advice plan LINE TRAIN SERVICE [--step N] [--splits N] [--tolerance N]\n"
         );
     }
     Ok(())
@@ -243,10 +245,23 @@ fn options_stand_anywhere(rt: HostRuntime) -> Result<(), Fail> {
     let alloc = rt.alloc();
     let route = route_of(alloc, 51_000, 50, &[LEVEL, LEVEL])?;
     let cases: [(&[&str], u8); 5] = [
-        (&["route", "a.route", "--tolerance", "1000"], 0),
-        (&["route", "--tolerance=1000", "a.route"], 0),
-        (&["route", "--tolerance", "0000001000", "--", "a.route"], 0),
-        (&["route", "--", "a.route"], 1),
+        (
+            &["route", "a.route", "--tolerance", "1000", "--splits", "0"],
+            0,
+        ),
+        (&["route", "--tolerance=1000", "--splits=0", "a.route"], 0),
+        (
+            &[
+                "route",
+                "--splits=0",
+                "--tolerance",
+                "0000001000",
+                "--",
+                "a.route",
+            ],
+            0,
+        ),
+        (&["route", "--splits=0", "--", "a.route"], 1),
         (&["route", "a.route", "--tolerance=0"], 1),
     ];
     for (words, status) in cases {

@@ -4,6 +4,7 @@ ghost use Rattle.std.specs.Prelude.{◌≡◌, ◌<◌, ◌≤◌};
 
 use advice_run::{Words, run};
 use edge_io::{MemoryShelf, MemorySink};
+use proposers::{Dips, EarlyBraking, LateCoasting, Proposer};
 use std::alloc::{AllocError, Global};
 use std::marker::Brand;
 use std::sync::ledger::{Blank, Ledger};
@@ -75,7 +76,11 @@ fn run_counted<L: Ledger>(
     let mut steps: Steps<L> = Steps::new(blank);
     let mut status = 0;
     for _ in 0..runs {
-        status = run(alloc, &list, &mut shelf, &mut sink, &mut steps);
+        let mut boxes: Vec<Box<dyn Proposer>> = Vec::new(alloc);
+        boxes.push(Box::new(alloc, Dips::new(alloc))?)?;
+        boxes.push(Box::new(alloc, LateCoasting::new(alloc))?)?;
+        boxes.push(Box::new(alloc, EarlyBraking::new(alloc))?)?;
+        status = run(alloc, &list, &mut shelf, &mut sink, boxes, &mut steps);
     }
     let text = String::from_utf8_lossy(alloc, sink.bytes())?;
     Ok(Ended { status, text })

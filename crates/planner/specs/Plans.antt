@@ -1,5 +1,6 @@
 -- What a plan is.
-use Rattle.std.specs.Prelude.{ℕ, ◌+◌, ◌<◌, ◌≤◌, ◌≡◌, ◌⊎◌, ◌↔◌, IsTrue, ℤ, List, Option, Some, length, slice_index_or}
+use Rattle.std.specs.Int.RustNames.{unsigned_abs}
+use Rattle.std.specs.Prelude.{ℕ, ◌+◌, ◌^◌, ◌<◌, ◌≤◌, ◌≡◌, ◌⊎◌, ◌↔◌, IsTrue, ℤ, List, Option, Some, length, slice_index_or}
 use Rattle.bound_specs.specs.declared.Cell.{Cell}
 use Rattle.rail_specs.specs.Rules.{Rules, NoDrive}
 use Rattle.rail_specs.specs.Cost.{cost_of, IsBound, GapMet}
@@ -24,6 +25,9 @@ pub record IsPlan (cost : ℤ → ℤ) (r : Rules) (budget tolerance : ℕ) (p :
   -- the drive is on time, and costs at most each member of the family of composed drives that is on time
   pub best : IsBestOfFamily cost r p.drive
   pub costs : p.cost ≡ cost_of cost r p.drive
+  -- cost and bound are small numbers
+  pub small_cost : unsigned_abs p.cost ≤ 2 ^ 99
+  pub small_bound : unsigned_abs p.bound ≤ 2 ^ 99
   -- the cells begin as one for each point, over the exact ranges of speeds, and come from the even cells by splits
   pub are_whole : AreWhole r whole
   pub are_even : AreEven whole budget even times

@@ -33,9 +33,9 @@ returns-clause-cells g c = elim c.if-not-is_met.branch [
 pub returns-clause-spent : goal.returns-clause-spent
 returns-clause-spent g c unmet = elim c.if-not-is_met.branch [
   | then-not-is_met+in_ok-split_rest w ↦ rw w.cells-is (elim w.in_ok-split_rest.ensures.spent [
-      | inl spent ↦ inl (omega (arith, spent, w.splits_left-left.ensures))
-      | inr single ↦ inr single
-    ])
+    | inl spent ↦ inl (omega (arith, spent, w.splits_left-left.ensures))
+    | inr single ↦ inr single
+  ])
   | else-not-is_met w ↦ absurd (unmet (met_rises c.args.goal.energy c.args.goal.tolerance c.args.work.valued.value c.in_ok-valued.valued.value (c.is_met.ensures.0 w.if-not-is_met.false)
       (c.in_ok-valued.ensures.no_less c.args.work.valued.value (rw w.cells-is c.requires.valued.value))))
 ]

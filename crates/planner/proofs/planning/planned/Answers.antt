@@ -48,6 +48,8 @@ returns-clause-plan g c =
       record {
         best = c.requires.best;
         costs = c.cost_of_drive-energy.ensures.value;
+        small_cost = omega (arith, c.cost_of_drive-energy.ensures.small);
+        small_bound = small;
         are_whole = split.are_whole;
         are_even = split.are_even;
         split = split.split;

@@ -20,8 +20,7 @@ renewed-requires-clause-last g c =
 pub renewed-requires-clause-before : goal.renewed-requires-clause-before
 renewed-requires-clause-before g c =
     let split = c.further_splits.ensures c.args.goal.splits c.args.work.cells c.split_chosen.new.cells c.requires.cells c.in_ok-split_chosen.ensures.come
-    (omega (arith, c.in_ok-split_chosen.ensures.most, c.splits_left-left.ensures)) in
-    (
+    (omega (arith, c.in_ok-split_chosen.ensures.most, c.splits_left-left.ensures)) in (
       c.args.work.cells,
       (c.requires.cells.points ∙ sym split.points, λ j le. sym (c.in_ok-split_chosen.ensures.behind j (omega (arith, le)))),
       c.requires.valued,
