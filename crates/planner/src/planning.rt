@@ -1,5 +1,5 @@
 //! The plan of a run.
-ghost use Rattle.std.specs.Prelude.{◌≡◌, ◌≤◌, ◌+◌, ◌^◌, ◌⊎◌, length, map, IfOk, EachIndex};
+ghost use Rattle.std.specs.Prelude.{◌≡◌, ℕ, ◌≤◌, ◌+◌, ◌^◌, ◌⊎◌, length, slice_index, map, IfOk, EachIndex};
 ghost use Rattle.std.specs.List.{slice_index_or};
 ghost use Rattle.rail_specs.specs.Rules.{IsDrive};
 ghost use Rattle.rail_specs.specs.Cost.{cost_of};
@@ -19,7 +19,8 @@ use crate::start::even_cells;
 use crate::work::Work;
 use cell_splitting::splits_known;
 use drive_rules::{Drive, Judged, Rules};
-use phase_composer::{Costed, compose_with_cost};
+use drive_search::search_drive;
+use phase_composer::{Costed, Kept, compose_with_cost};
 use potential_table::{finer_cells_bound_more, prices_for};
 use price_rounds::find_prices;
 use proposers::{Proposer, improve};
@@ -30,8 +31,8 @@ use std::alloc::{AllocError, Global};
 /// A plan for the rules of a run, at a cost of work; or that there is no drive, or that none is on time. `AllocError` is want of memory: a
 /// box may then have been begun and asked.
 ///
-/// The drive is the best of the family of composed drives, improved by what the boxes offer, each of which is begun and asked in order. The
-/// bound is the chain value of cells that come from one cell for each point by splits, as many as `options` allow, at prices of the
+/// The drive is the best of the family of composed drives, improved by a search and then by what the boxes offer, each of which is begun and
+/// asked in order. The bound is the chain value of cells that come from one cell for each point by splits, as many as `options` allow, at prices of the
 /// timing points. It is a bound, whatever the boxes offer and whichever cells are split: no drive on time costs less.
 pub fn plan<C: StepCost>(
     alloc: Global,
@@ -52,44 +53,50 @@ pub fn plan<C: StepCost>(
         Costed::NoDrive => Ok(Answer::NoDrive),
         Costed::Late { timing, arrival } => Ok(Answer::Late { timing, arrival }),
         Costed::Best(kept) => {
-            let plan = plan_from(alloc, rules, cost, options, boxes, kept.drive)?;
+            let plan = plan_from(alloc, rules, cost, options, boxes, kept)?;
             Ok(Answer::Drive(plan))
         }
     }
 }
 
-/// The plan with a drive that is the best of the family, once boxes have improved it. Or want of memory.
+/// The plan with a drive that is the best of the family, once a search and the boxes have improved it. Or want of memory.
 fn plan_from<C: StepCost>(
     alloc: Global,
     rules: &Rules,
     cost: &C,
     options: Options,
     boxes: &mut Vec<Box<dyn Proposer>>,
-    drive: Drive,
+    kept: Kept,
 ) -> Result<Plan, AllocError>
     requires splits { options.splits ≤ 50000 }
     requires tolerance { options.tolerance ≤ 1000 }
-    requires best { IsBestOfFamily (C.cost cost.now) rules.now drive }
+    requires best { IsBestOfFamily (C.cost cost.now) rules.now kept.drive }
+    requires costs { kept.cost ≡ cost_of (C.cost cost.now) rules.now kept.drive }
     ensures plan { IfOk result (IsSomePlan (C.cost cost.now) rules.now options.splits options.tolerance) }
     ensures improves { IfOk result (λ plan. EachIndex boxes.new.items (λ k. Improves (C.cost cost.now) rules.now plan.drive
         (slice_index_or (map (λ b. state (offers b) (takes b) (begins b)) boxes.old.items) k no_state)
         (slice_index_or (map (λ b. state (offers b) (takes b) (begins b)) boxes.new.items) k no_state))) }
     ensures len { length boxes.new.items ≡ length boxes.old.items }
 {
-    let mut drive = drive;
+    let mut kept = kept;
+    let prices = search_drive(alloc, rules, cost, &mut kept)?;
+    let mut drive = kept.drive;
     improve(alloc, boxes, rules, cost, &mut drive)?;
-    let plan = planned(alloc, rules, cost, options, drive)?;
+    let plan = planned(alloc, rules, cost, options, drive, prices.as_slice())?;
     Ok(plan)
 }
 
-/// The plan with a drive. Or want of memory.
+/// The plan with a drive, whose bound is sought from these prices of the timing points on. Or want of memory.
 fn planned<C: StepCost>(
     alloc: Global,
     rules: &Rules,
     cost: &C,
     options: Options,
     drive: Drive,
+    given: &[u64],
 ) -> Result<Plan, AllocError>
+    requires count { length given.now ≡ length rules.now.timings }
+    requires low { (j : ℕ) → slice_index given.now j ≤ 2 ^ 50 }
     requires splits { options.splits ≤ 50000 }
     requires tolerance { options.tolerance ≤ 1000 }
     requires best { IsBestOfFamily (C.cost cost.now) rules.now drive }
@@ -105,7 +112,7 @@ fn planned<C: StepCost>(
         tolerance: options.tolerance,
         splits: options.splits,
     };
-    let work = found_work(alloc, rules, cost, goal, drive.speeds())?;
+    let work = found_work(alloc, rules, cost, goal, drive.speeds(), given)?;
     let Work { cells, valued } = work;
     relaxed_costs_known(rules, &valued.prices);
     let Some(bound) = valued.value else {
@@ -131,8 +138,11 @@ fn found_work<C: StepCost>(
     cost: &C,
     goal: Goal,
     drive: &[u16],
+    given: &[u64],
 ) -> Result<Work, AllocError>
-    requires { IsDrive rules.now drive.now }
+    requires drive { IsDrive rules.now drive.now }
+    requires count { length given.now ≡ length rules.now.timings }
+    requires low { (j : ℕ) → slice_index given.now j ≤ 2 ^ 50 }
     ensures cells { IfOk result (λ work. AreSplit rules.now goal.splits work.cells) }
     ensures valued { IfOk result (λ work. IsValued (C.cost cost.now) rules.now work.cells work.valued) }
     ensures last { IfOk result (λ work. IsLastBest (C.cost cost.now) rules.now work.cells work.valued.prices work.valued.value) }
@@ -140,27 +150,29 @@ fn found_work<C: StepCost>(
     ensures spent { IfOk result (λ work. (IsMet goal.energy goal.tolerance work.valued.value → ⊥)
         → (cell_count work.cells ≡ length rules.now.steps + 1 + goal.splits) ⊎ AreSingle work.cells) }
 {
-    let work = first_work(alloc, rules, cost, goal, drive)?;
+    let work = first_work(alloc, rules, cost, goal, drive, given)?;
     let work = refined(alloc, rules, cost, goal, work)?;
     finished(alloc, rules, cost, goal, work)
 }
 
-/// The even cells, with prices for them. Or want of memory.
+/// The even cells, with prices for them that are sought from those given. Or want of memory.
 fn first_work<C: StepCost>(
     alloc: Global,
     rules: &Rules,
     cost: &C,
     goal: Goal,
     drive: &[u16],
+    given: &[u64],
 ) -> Result<Work, AllocError>
-    requires { IsDrive rules.now drive.now }
+    requires drive { IsDrive rules.now drive.now }
+    requires count { length given.now ≡ length rules.now.timings }
+    requires low { (j : ℕ) → slice_index given.now j ≤ 2 ^ 50 }
     ensures cells { IfOk result (λ work. AreSplit rules.now goal.splits work.cells) }
     ensures valued { IfOk result (λ work. IsValued (C.cost cost.now) rules.now work.cells work.valued) }
 {
-    let zeros = vec![in alloc; 0u64; rules.timings().len()]?;
-    let none = prices_for(alloc, rules, zeros.as_slice())?;
-    let cells = even_cells(alloc, rules, &none, drive, goal.splits)?;
-    let valued = find_prices(alloc, rules, cost, &cells, &none)?;
+    let prices = prices_for(alloc, rules, given)?;
+    let cells = even_cells(alloc, rules, &prices, drive, goal.splits)?;
+    let valued = find_prices(alloc, rules, cost, &cells, &prices)?;
     Ok(Work { cells, valued })
 }
 
