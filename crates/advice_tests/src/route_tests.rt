@@ -76,8 +76,8 @@ fn routes_are_answered(rt: HostRuntime) -> Result<(), Fail> {
             51_000,
             60,
             &[LEVEL, LEVEL, LEVEL],
-            1,
-            "advice 1\ngap open\nenergy 7338890000000\nkilojoules 3670\nbound 7244910465104\ncells 2002\nsplits 1998\nphase 0 200 part 0 833\nphase 200 300 brake 833 0\ntime 300 59989 60000\nspeeds 0 834 833 0\nend\n",
+            0,
+            "advice 1\ngap met\nenergy 7255840000000\nkilojoules 3628\nbound 7224408070205\ncells 686\nsplits 682\nphase 0 200 part 0 828\nphase 200 300 brake 828 0\ntime 300 59991 60000\nspeeds 0 839 828 0\nend\n",
         ),
         (51_000, 50, &[LEVEL], 3, "refused route range 8\n"),
     ];
@@ -96,8 +96,8 @@ fn phased(case: u32) -> (&'static [&'static str], u8, &'static str) {
         // The last limit is lower than the rest.
         0 => (
             &[LEVEL, LEVEL, "100 0 989"],
-            1,
-            "advice 1\ngap open\nenergy 7338890000000\nkilojoules 3670\nbound 7244910465104\ncells 1991\nsplits 1987\nphase 0 200 part 0 833\nphase 200 300 brake 833 0\ntime 300 59989 60000\nspeeds 0 834 833 0\nend\n",
+            0,
+            "advice 1\ngap met\nenergy 7255840000000\nkilojoules 3628\nbound 7219788965516\ncells 686\nsplits 682\nphase 0 200 part 0 828\nphase 200 300 brake 828 0\ntime 300 59991 60000\nspeeds 0 839 828 0\nend\n",
         ),
         // Up to a speed below the limit, with less traction than there is; 2,324.445 kJ.
         _ => (
