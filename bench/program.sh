@@ -1,4 +1,4 @@
-# Read by route.sh and plan.sh: builds the program and counts what a run of it takes. Needs rt, valgrind and /usr/bin/time.
+# Read by route.sh, plan.sh and plans.sh: builds the program and counts what a run of it takes. Needs rt, valgrind and /usr/bin/time.
 top=$(cd "$(dirname "$0")/.." && pwd)
 work=$(mktemp -d)
 trap 'rm -rf "$work"' EXIT

@@ -27,24 +27,24 @@ try() { # the wanted status; the wanted text, with '|' for line ends, or the fil
 # Builds the program where it isn't built yet; without words it answers with the usage.
 ../advice >/dev/null || [ $? != 70 ] || exit 70
 
-run_200m='advice 1|gap open|energy 10200000000000|kilojoules 5100|bound 0|phase 0 100 power 0 1000|phase 100 200 brake 1000 0|time 200 40000 50000|speeds 0 1000 0|end|'
-met_200m='advice 1|gap met|energy 10200000000000|kilojoules 5100|bound 0|phase 0 100 power 0 1000|phase 100 200 brake 1000 0|time 200 40000 50000|speeds 0 1000 0|end|'
-usage='usage: advice route FILE [--tolerance N]|       advice plan LINE TRAIN SERVICE [--step N] [--tolerance N]|'
+run_200m='advice 1|gap met|energy 6600000000000|kilojoules 3300|bound 6599679787200|cells 1002|splits 999|phase 0 100 part 0 800|phase 100 200 brake 800 0|time 200 50000 50000|speeds 0 800 0|end|'
+whole_200m='advice 1|gap open|energy 6600000000000|kilojoules 3300|bound 200010000000|cells 3|splits 0|phase 0 100 part 0 800|phase 100 200 brake 800 0|time 200 50000 50000|speeds 0 800 0|end|'
+usage='usage: advice route FILE [--splits N] [--tolerance N]|       advice plan LINE TRAIN SERVICE [--step N] [--splits N] [--tolerance N]|'
 
-# From one stop to the next: as three files, as one, and with a gap that is let be.
-try 1 "$run_200m" plan 200m/line.csv 200m/train.toml 200m/service.csv
-try 1 "$run_200m" route two_steps.route
-try 0 "$met_200m" route two_steps.route --tolerance 1000
+# From one stop to the next: as three files, as one, and without a split, so that the gap is open.
+try 0 "$run_200m" plan 200m/line.csv 200m/train.toml 200m/service.csv
+try 0 "$run_200m" route two_steps.route
+try 1 "$whole_200m" route two_steps.route --splits 0
 
 # Downhill all the way: no energy is wanted, so none can be saved, and the gap is met.
-try 0 'advice 1|gap met|energy 0|kilojoules 0|bound 0|phase 0 200 brake 0 0|time 200 43574 50000|speeds 0 918 0|end|' route downhill.route
+try 0 'advice 1|gap met|energy 0|kilojoules 0|bound 0|cells 920|splits 917|phase 0 200 brake 0 0|time 200 43574 50000|speeds 0 918 0|end|' route downhill.route
 
 # Gradients and a restriction, by steps of 500 m; and a line of 40 km with two stops on the way.
-try 1 answers/6km.txt plan 6km/line.csv 6km/train.toml 6km/service.csv --step 500
+try 0 answers/6km.txt plan 6km/line.csv 6km/train.toml 6km/service.csv --step 500
 try 1 answers/40km.txt plan 40km/line.csv 40km/train.toml 40km/service.csv --step 200
 
 # Several timing points, one of them passed without a stop.
-try 1 answers/6km_timed.txt plan 6km/line.csv 6km/train.toml 6km/timed.csv --step 500
+try 0 answers/6km_timed.txt plan 6km/line.csv 6km/train.toml 6km/timed.csv --step 500
 
 # Late at the second timing point, and late at the end.
 try 5 'advice 1|late 4000 272952 270000|' plan 6km/line.csv 6km/train.toml 6km/late.csv --step 500
