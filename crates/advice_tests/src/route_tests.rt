@@ -189,7 +189,7 @@ fn words_that_ask_for_nothing_are_answered_by_the_usage(rt: HostRuntime) -> Resu
         &["Route", "a"],
         &["route", "a", "--help"],
         &["route", "a", "-h"],
-        &["route", "a", "--splits", "1"],
+        &["route", "a", "--splits", "50001"],
         &["route", "a", "--tolerance"],
         &["route", "a", "--tolerance", "1001"],
         &["route", "a", "--tolerance", "+1"],
