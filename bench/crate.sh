@@ -1,4 +1,4 @@
-# Read by judge.sh, line_file.sh and potentials.sh: builds a small program over the crates, in a copy of the repository. Needs rt and
+# Read by judge.sh, line_file.sh, potentials.sh and price_search.sh: builds a small program over the crates, in a copy of the repository. Needs rt and
 # valgrind. What was proved before is copied too, so that only what changed is proved again.
 top=$(cd "$(dirname "$0")/.." && pwd)
 work=$(mktemp -d)
@@ -18,6 +18,37 @@ fn rules_of<L: Ledger>(alloc: Global, text: &[u8], blank: Blank) -> Option<Rules
 
 fn rules(alloc: Global, text: &[u8]) -> Option<Rules> {
     rules_of::<Brand>(alloc, text, Blank::new(1))
+}
+'
+
+# How a program halves cells: behind `use` lines.
+splitting_cells='
+/// Splits each cell of two or more speeds, up to so many cells a point.
+fn halve(cells: &mut Cells, most: usize) -> Result<(), AllocError> {
+    for k in 0..cells.points() {
+        halve_point(cells, k, most)?;
+    }
+    Ok(())
+}
+
+fn halve_point(cells: &mut Cells, k: usize, most: usize) -> Result<(), AllocError> {
+    if k >= cells.points() {
+        return Ok(());
+    }
+    for c in (0..cells.of(k)).rev() {
+        split_one(cells, k, c, most)?;
+    }
+    Ok(())
+}
+
+fn split_one(cells: &mut Cells, k: usize, c: usize, most: usize) -> Result<(), AllocError> {
+    if k < cells.points() && c < cells.of(k) && cells.of(k) < most {
+        let cell = cells.cell(k, c);
+        if cell.first < cell.last {
+            cells.split(k, c)?;
+        }
+    }
+    Ok(())
 }
 '
 

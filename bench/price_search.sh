@@ -61,35 +61,9 @@ fn whole(alloc: Global, points: usize) -> Result<Cells, AllocError> {
     pairs.push((0, 0))?;
     Cells::whole(alloc, pairs.as_slice())
 }
-
-/// Splits each cell of two or more speeds, up to so many cells a point.
-fn halve(cells: &mut Cells, most: usize) -> Result<(), AllocError> {
-    for k in 0..cells.points() {
-        halve_point(cells, k, most)?;
-    }
-    Ok(())
-}
-
-fn halve_point(cells: &mut Cells, k: usize, most: usize) -> Result<(), AllocError> {
-    if k >= cells.points() {
-        return Ok(());
-    }
-    for c in (0..cells.of(k)).rev() {
-        split_one(cells, k, c, most)?;
-    }
-    Ok(())
-}
-
-fn split_one(cells: &mut Cells, k: usize, c: usize, most: usize) -> Result<(), AllocError> {
-    if k < cells.points() && c < cells.of(k) && cells.of(k) < most {
-        let cell = cells.cell(k, c);
-        if cell.first < cell.last {
-            cells.split(k, c)?;
-        }
-    }
-    Ok(())
-}
-
+RT
+echo "$splitting_cells" >>"$main"
+cat >>"$main" <<'RT'
 /// Fills so many tables at this price, and searches for the best price from there where that is asked.
 fn price_of(
     alloc: Global,
