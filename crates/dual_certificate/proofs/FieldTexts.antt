@@ -33,13 +33,13 @@ pub point_append : (old a b d e f : List ℕ) (p : CertPoint) (v g : ℤ) (cells
     → b ≡ a ++ spaced v → d ≡ b ++ spaced g → e ≡ d ++ flat_map cell_field cells → f ≡ e ++ 10 ∷ [] → f ≡ old ++ point_line p
 point_append old a b d e f p v g cells some ev eg ec ea eb ed ee ef = rw (ef, ee, ed, eb, ea, ev, eg, ec) (point_text old p some)
 
-seven_parts : (t n e b p q l : List ℕ) → ((((((([] ++ t) ++ n) ++ e) ++ b) ++ p) ++ q) ++ l) ≡ t ++ (n ++ (e ++ (b ++ (p ++ (q ++ l)))))
-seven_parts t n e b p q l = simp append_assoc
+seven_parts : (o t n e b p q l : List ℕ) → (((((((o ++ t) ++ n) ++ e) ++ b) ++ p) ++ q) ++ l) ≡ o ++ (t ++ (n ++ (e ++ (b ++ (p ++ (q ++ l))))))
+seven_parts o t n e b p q l = simp append_assoc
 
 -- a certificate's text, line by line
 pub lines_append : (o a b d e f g h : List ℕ) (c : Certificate) (n energy bound : ℤ) (prices : List ℕ) (points : List CertPoint) → n ≡ pos (length c.points) → energy ≡ c.energy → bound ≡ c.bound
-    → prices ≡ c.prices → points ≡ c.points → o ≡ [] → a ≡ o ++ line (codes "certificate 1") → b ≡ a ++ one_line (codes "points ") n → d ≡ b ++ one_line (codes "energy ") energy
-    → e ≡ d ++ one_line (codes "bound ") bound → f ≡ e ++ prices_line prices → g ≡ f ++ flat_map point_line points → h ≡ g ++ line (codes "end") → h ≡ text_of c
+    → prices ≡ c.prices → points ≡ c.points → a ≡ o ++ line (codes "certificate 1") → b ≡ a ++ one_line (codes "points ") n → d ≡ b ++ one_line (codes "energy ") energy
+    → e ≡ d ++ one_line (codes "bound ") bound → f ≡ e ++ prices_line prices → g ≡ f ++ flat_map point_line points → h ≡ g ++ line (codes "end") → h ≡ o ++ text_of c
 unfolding text_of
-lines_append o a b d e f g h c n energy bound prices points en ee eb ep eq eo ea e0 e1 e2 e3 e4 e5 = rw (e5, e4, e3, e2, e1, e0, ea, eo, en, ee, eb, ep, eq) (seven_parts (line (codes "certificate 1")) (one_line (codes "points ") (pos (length c.points))) (one_line (codes "energy ") c.energy)
+lines_append o a b d e f g h c n energy bound prices points en ee eb ep eq ea e0 e1 e2 e3 e4 e5 = rw (e5, e4, e3, e2, e1, e0, ea, en, ee, eb, ep, eq) (seven_parts o (line (codes "certificate 1")) (one_line (codes "points ") (pos (length c.points))) (one_line (codes "energy ") c.energy)
     (one_line (codes "bound ") c.bound) (prices_line c.prices) (flat_map point_line c.points) (line (codes "end")))

@@ -2,3 +2,4 @@ pub mod Numbers
 pub mod Text
 pub mod Grammar
 pub mod Part
+pub mod Contents

@@ -1,6 +1,11 @@
 //! Certificates of a bound.
 
+ghost use Rattle.std.specs.Prelude.{◌≡◌, IfOk};
+ghost use Rattle.dual_certificate.specs.Contents.{speeds_of};
+ghost use Rattle.dual_certificate.specs.Text.{IsCertificate, cells_in};
+
 use rail_base::ItemList;
+use std::alloc::{AllocError, Global};
 
 /// A cell of a point: an interval of speeds, which ends below the next cell's first speed, or at the point's greatest speed.
 #[derive(Clone, Copy, PartialEq, Eq, Debug)]
@@ -44,4 +49,30 @@ pub struct Certificate {
     pub prices: PriceList,
     /// The points, one more than the steps.
     pub points: PointList,
+}
+
+impl Certificate {
+    /// The drive's speeds, cm/s, one for each point.
+    pub fn speeds(&self, alloc: Global) -> Result<Vec<u16>, AllocError>
+        ensures { IfOk result (λ speeds. speeds.items ≡ speeds_of self.now) }
+    {
+        let mut speeds = Vec::new(alloc);
+        for point in self.points.items() {
+            speeds.push(point.speed)?;
+        }
+        Ok(speeds)
+    }
+
+    /// How many cells there are at all points.
+    pub fn cell_count(&self) -> usize
+        requires { IsCertificate self.now }
+        ensures { result ≡ cells_in self.now.points }
+    {
+        let points = self.points.items();
+        let mut count = 0;
+        for point in points {
+            count += point.cells.items().len();
+        }
+        count
+    }
 }

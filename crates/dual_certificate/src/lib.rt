@@ -15,7 +15,7 @@ pub use certificate::{CellList, CertCell, CertPoint, Certificate, PointList, Pri
 pub use fault::CertFault;
 pub use part::certificate_part;
 pub use reading::read;
-pub use writing::write;
+pub use writing::{put_certificate, write};
 
 #[cfg(test)]
 mod tests;

@@ -90,24 +90,33 @@ fn put_points(alloc: Global, out: &mut Vec<u8>, points: &[CertPoint]) -> Result<
     Ok(())
 }
 
-/// The one text of a certificate, whose numbers are in their ranges.
+/// Appends the one text of a certificate, whose numbers are in their ranges.
 #[tactic(auto, unfolding(crate::specs::Text::text_of))]
+pub fn put_certificate(
+    alloc: Global,
+    out: &mut Vec<u8>,
+    certificate: &Certificate,
+) -> Result<(), AllocError>
+    requires { IsCertificate certificate.now }
+    ensures { OnOk result (out.new.items ≡ out.old.items ++ text_of certificate.now) }
+{
+    put_line(out, b"certificate 1")?;
+    let points = certificate.points.items();
+    put_one(alloc, out, b"points ", points.len() as i128)?;
+    put_one(alloc, out, b"energy ", certificate.energy)?;
+    put_one(alloc, out, b"bound ", certificate.bound)?;
+    put_prices(alloc, out, certificate.prices.items())?;
+    put_points(alloc, out, points)?;
+    put_line(out, b"end")?;
+    Ok(())
+}
+
+/// The one text of a certificate, whose numbers are in their ranges.
 pub fn write(alloc: Global, certificate: &Certificate) -> Result<Vec<u8>, AllocError>
     requires { IsCertificate certificate.now }
     ensures { IfOk result (λ text. text.items ≡ text_of certificate.now) }
 {
     let mut out = Vec::new(alloc);
-    put_line(&mut out, b"certificate 1")?;
-    put_one(
-        alloc,
-        &mut out,
-        b"points ",
-        certificate.points.items().len() as i128,
-    )?;
-    put_one(alloc, &mut out, b"energy ", certificate.energy)?;
-    put_one(alloc, &mut out, b"bound ", certificate.bound)?;
-    put_prices(alloc, &mut out, certificate.prices.items())?;
-    put_points(alloc, &mut out, certificate.points.items())?;
-    put_line(&mut out, b"end")?;
+    put_certificate(alloc, &mut out, certificate)?;
     Ok(out)
 }
