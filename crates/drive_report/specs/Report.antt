@@ -1,12 +1,18 @@
 -- The texts that the program prints. Each line ends with a line feed, numbers are in their shortest decimal spelling.
-use Rattle.std.specs.Prelude.{ℕ, zero, suc, ◌+◌, ◌/◌, ◌==◌, ◌||◌, not, List, [], ◌∷◌, ◌++◌, ℤ, pos, negsuc, neg_ℤ}
+use Rattle.std.specs.Prelude.{ℕ, zero, suc, ◌+◌, ◌/◌, ◌==◌, ◌||◌, not, List, [], ◌∷◌, ◌++◌, ℤ, pos, negsuc, neg_ℤ, Option, None, Some}
 use Rattle.std.specs.Prelude.{codes, length, slice_index, Bool, true, false, if◌then◌else◌}
 use Rattle.std.specs.Int.{div_ceil}
 use Rattle.std.specs.List.{flat_map}
 use Rattle.rail_base.specs.Texts.{line, spaced, number_line}
 use Rattle.rail_specs.specs.declared.Timing.{Timing}
 use Rattle.rail_specs.specs.Rules.{Rules, timing_at}
+use Rattle.rail_specs.specs.Cost.{cost_of, traction_cost}
 use Rattle.rail_specs.specs.Times.{arrival_up}
+use Rattle.dual_certificate.specs.declared.certificate.Certificate.{Certificate}
+use Rattle.dual_certificate.specs.Contents.{speeds_of}
+use Rattle.dual_certificate.specs.Text.{cells_in, text_of}
+use Rattle.drive_report.specs.declared.figures.Counts.{Counts}
+use Rattle.drive_report.specs.declared.figures.Figures.{Figures}
 use Rattle.drive_report.specs.Phase.{phase_at, phase_name, is_same}
 
 -- the first line of each answer
@@ -32,10 +38,6 @@ late_text r j arrival = head_line ++ late_line r j arrival
 unfoldable pub gap_line : Bool → List ℕ
 gap_line true = line (codes "gap met")
 gap_line false = line (codes "gap open")
-
--- the speeds at the points, in cm/s
-unfoldable pub speeds_line : List ℕ → List ℕ
-speeds_line speeds = line (codes "speeds" ++ flat_map (λ v. spaced (pos v)) speeds)
 
 -- the least whole number of kilojoules that is at least an energy in 0.5 microjoule
 abbrev pub kilojoules_of : ℤ → ℤ
@@ -67,19 +69,48 @@ unfoldable pub time_line : Rules → List ℕ → Timing → List ℕ
 time_line r speeds t =
     line (codes "time" ++ spaced (pos (slice_index r.places t.point)) ++ spaced (pos (arrival_up r speeds t.point)) ++ spaced t.latest)
 
--- the lines of the energy, also in kilojoules, and of the bound
-abbrev pub energy_lines : ℤ → ℤ → List ℕ
-energy_lines energy bound =
-    number_line (codes "energy") energy ++ number_line (codes "kilojoules") (kilojoules_of energy) ++ number_line (codes "bound") bound
+-- the lines of the energy, also in kilojoules
+abbrev pub energy_lines : ℤ → List ℕ
+energy_lines energy = number_line (codes "energy") energy ++ number_line (codes "kilojoules") (kilojoules_of energy)
 
--- the lines of the number of cells and of the splits that made them
-abbrev pub count_lines : ℕ → ℕ → List ℕ
-count_lines cells splits = number_line (codes "cells") (pos cells) ++ number_line (codes "splits") (pos splits)
+-- of a train that regains energy, the lines of the share that its brakes give back, in per mille, and of the energy that the traction alone
+-- takes
+abbrev pub regained_lines : Rules → List ℕ → Option ℕ → List ℕ
+regained_lines r speeds None = []
+regained_lines r speeds (Some share) =
+    number_line (codes "regeneration") (pos share) ++ number_line (codes "traction") (cost_of traction_cost r speeds)
 
--- the report of a drive: whether the gap is met, its energy and the bound, how many cells the bound has and how many splits made them, the
--- drive's phases, its times, and its speeds
-abbrev pub report_text : Rules → List ℕ → ℤ → ℤ → Bool → ℕ → ℕ → List ℕ
-report_text r speeds energy bound met cells splits =
-    head_line ++ gap_line met ++ energy_lines energy bound ++ count_lines cells splits ++ phase_lines r speeds (length r.steps)
-    ++ flat_map (time_line r speeds) r.timings
-    ++ speeds_line speeds ++ line (codes "end")
+-- the line of the bound
+abbrev pub bound_line : ℤ → List ℕ
+bound_line bound = number_line (codes "bound") bound
+
+-- where a bound comes from cells, the lines of their number and of the splits that made them
+abbrev pub count_lines : Option Counts → List ℕ
+count_lines None = []
+count_lines (Some c) = number_line (codes "cells") (pos c.cells) ++ number_line (codes "splits") (pos c.splits)
+
+-- the advice part of a report: whether the gap is met, the energy, what a train regains, the bound, the counts, the drive's phases, and its
+-- times
+unfoldable pub advice_text : Rules → List ℕ → Figures → List ℕ
+advice_text r speeds f =
+    head_line
+    ++ (gap_line f.met
+    ++ (energy_lines f.energy
+    ++ (regained_lines r speeds f.regeneration
+    ++ (bound_line f.bound
+    ++ (count_lines f.counts ++ (phase_lines r speeds (length r.steps) ++ flat_map (time_line r speeds) r.timings))))))
+
+-- what a report says of a certificate
+abbrev pub figures_of : Certificate → Bool → ℕ → Option ℕ → Figures
+figures_of c met splits regeneration =
+    record {
+      energy = c.energy;
+      bound = c.bound;
+      met = met;
+      counts = Some (record { cells = cells_in c.points; splits = splits });
+      regeneration = regeneration;
+    }
+
+-- the report of a certificate's drive: the advice part, and the certificate
+abbrev pub report_text : Rules → Certificate → Bool → ℕ → Option ℕ → List ℕ
+report_text r c met splits regeneration = advice_text r (speeds_of c) (figures_of c met splits regeneration) ++ text_of c

@@ -4,13 +4,16 @@
 //! `specs/Report.antt`, and those of the phases in `specs/Phase.antt`.
 #![tactic(auto)]
 
+mod energies;
+mod figures;
 mod kinds;
 mod late_texts;
 mod lines;
 mod phases;
 mod reports;
 
+pub use figures::{Counts, Figures};
 pub use kinds::Phase;
 pub use late_texts::{late_text, no_drive_text};
 pub use phases::phase;
-pub use reports::report;
+pub use reports::{put_advice, report};

@@ -1,45 +1,26 @@
 //! The report of a drive.
 
 ghost use Rattle.std.specs.Prelude.{◌≡◌, ◌++◌, ◌∷◌, ℕ, ◌+◌, ◌<◌, ◌≤◌, ◌==◌, ◌^◌, List};
-ghost use Rattle.std.specs.Prelude.{length, pos, IfOk, OnOk, IsTrue, ◌↔◌, if◌then◌else◌, [], slice_index};
+ghost use Rattle.std.specs.Prelude.{length, IfOk, OnOk, IsTrue, ◌↔◌, if◌then◌else◌, [], slice_index};
 ghost use Rattle.std.specs.List.{flat_map};
 ghost use Rattle.rail_specs.specs.Rules.{IsDrive};
 ghost use Rattle.rail_specs.specs.Times.{arrival_up};
 ghost use Rattle.drive_report.specs.Phase.{phase_at, phase_name};
-ghost use Rattle.drive_report.specs.Report.{gap_line, speeds_line, kilojoules_of, ends_run, run_start};
-ghost use Rattle.drive_report.specs.Report.{phase_line, phase_lines, time_line, energy_lines, count_lines, report_text};
+ghost use Rattle.dual_certificate.specs.Contents.{speeds_of};
+ghost use Rattle.dual_certificate.specs.Text.{IsCertificate};
+ghost use Rattle.drive_report.specs.Report.{gap_line, ends_run, run_start};
+ghost use Rattle.drive_report.specs.Report.{phase_line, phase_lines, time_line, count_lines, advice_text, report_text};
 
+use crate::energies::{put_energy, put_regained};
+use crate::figures::{Counts, Figures};
 use crate::kinds::Phase;
 use crate::lines::put_head;
 use crate::phases::phase;
 use drive_rules::Rules;
+use dual_certificate::{Certificate, put_certificate};
 use rail_base::{put_line, put_number_line, put_spaced, put_word};
 use rail_specs::Timing;
 use std::alloc::{AllocError, Global};
-
-/// Appends the line of speeds, in cm/s, one for each point.
-#[tactic(auto, unfolding(crate::specs::Report::speeds_line))]
-fn put_speeds(alloc: Global, out: &mut Vec<u8>, speeds: &[u16]) -> Result<(), AllocError>
-    ensures { OnOk result (out.new.items ≡ out.old.items ++ speeds_line speeds.now) }
-{
-    out.extend_from_slice(b"speeds")?;
-    for i in 0..speeds.len() {
-        put_spaced(alloc, out, speeds[i] as i128)?;
-    }
-    out.push(b'\n')?;
-    Ok(())
-}
-
-/// The least whole number of kilojoules that is at least an energy in 0.5 microjoule.
-fn kilojoules(energy: i128) -> i128
-    ensures { result ≡ kilojoules_of energy }
-{
-    if energy >= 0 {
-        (energy as u128).div_ceil(2_000_000_000) as i128
-    } else {
-        -((energy.unsigned_abs() / 2_000_000_000) as i128)
-    }
-}
 
 /// The name of a phase.
 fn phase_name(phase: Phase) -> &'static [u8]
@@ -208,51 +189,72 @@ fn put_gap(out: &mut Vec<u8>, met: bool) -> Result<(), AllocError>
     put_line(out, if met { b"gap met" } else { b"gap open" })
 }
 
-/// Appends the lines of the energy and of the bound.
-fn put_energy(alloc: Global, out: &mut Vec<u8>, energy: i128, bound: i128) -> Result<(), AllocError>
-    ensures { OnOk result (out.new.items ≡ out.old.items ++ energy_lines energy bound) }
+/// Appends the lines of the cells and the splits, where the bound comes from cells.
+fn put_counts(alloc: Global, out: &mut Vec<u8>, counts: Option<Counts>) -> Result<(), AllocError>
+    ensures { OnOk result (out.new.items ≡ out.old.items ++ count_lines counts) }
 {
-    put_number_line(alloc, out, b"energy", energy)?;
-    put_number_line(alloc, out, b"kilojoules", kilojoules(energy))?;
-    put_number_line(alloc, out, b"bound", bound)?;
+    if let Some(counts) = counts {
+        put_number_line(alloc, out, b"cells", counts.cells as i128)?;
+        put_number_line(alloc, out, b"splits", counts.splits as i128)?;
+    }
     Ok(())
 }
 
-/// Appends the lines of the cells and the splits.
-fn put_counts(alloc: Global, out: &mut Vec<u8>, cells: u64, splits: u32) -> Result<(), AllocError>
-    ensures { OnOk result (out.new.items ≡ out.old.items ++ count_lines cells splits) }
-{
-    put_number_line(alloc, out, b"cells", cells as i128)?;
-    put_number_line(alloc, out, b"splits", splits as i128)?;
-    Ok(())
-}
-
-/// The report of a drive: whether the gap between its energy and a bound is met, its energy, also in kilojoules, the bound, how many cells
-/// the bound has and how many splits made them, a line for each longest run of steps of one phase, a line for each timing point, and its
-/// speeds.
+/// Appends the advice part of a report: whether the gap is met, the energy, also in kilojoules, what the train regains where its file says
+/// so, the bound, what the bound took, a line for each longest run of steps of one phase, and a line for each timing point.
 ///
-/// Energy and bound are in 0.5 microjoule, the speeds in cm/s, one for each point. The only error is want of memory.
+/// The speeds are in cm/s, one for each point.
+#[tactic(auto, unfolding(crate::specs::Report::advice_text))]
+pub fn put_advice(
+    alloc: Global,
+    out: &mut Vec<u8>,
+    rules: &Rules,
+    speeds: &[u16],
+    figures: &Figures,
+) -> Result<(), AllocError>
+    requires { IsDrive rules.now speeds.now }
+    ensures { OnOk result (out.new.items ≡ out.old.items ++ advice_text rules.now speeds.now figures.now) }
+{
+    put_head(out)?;
+    put_gap(out, figures.met)?;
+    put_energy(alloc, out, figures.energy)?;
+    put_regained(alloc, out, rules, speeds, figures.regeneration)?;
+    put_number_line(alloc, out, b"bound", figures.bound)?;
+    put_counts(alloc, out, figures.counts)?;
+    put_phases(alloc, out, rules, speeds)?;
+    put_times(alloc, out, rules, speeds)?;
+    Ok(())
+}
+
+/// The report of a certificate's drive: the advice part, and the certificate.
+///
+/// The only error is want of memory.
 pub fn report(
     alloc: Global,
     rules: &Rules,
-    speeds: &[u16],
-    energy: i128,
-    bound: i128,
+    certificate: &Certificate,
     met: bool,
-    cells: u64,
     splits: u32,
+    regeneration: Option<u16>,
 ) -> Result<Vec<u8>, AllocError>
-    requires { IsDrive rules.now speeds.now }
-    ensures { IfOk result (λ text. text.items ≡ report_text rules.now speeds.now energy bound met cells splits) }
+    requires drive { IsDrive rules.now (speeds_of certificate.now) }
+    requires certificate { IsCertificate certificate.now }
+    ensures { IfOk result (λ text. text.items ≡ report_text rules.now certificate.now met splits regeneration) }
 {
+    let counts = Counts {
+        cells: certificate.cell_count() as u64,
+        splits,
+    };
+    let figures = Figures {
+        energy: certificate.energy,
+        bound: certificate.bound,
+        met,
+        counts: Some(counts),
+        regeneration,
+    };
+    let speeds = certificate.speeds(alloc)?;
     let mut out = Vec::new(alloc);
-    put_head(&mut out)?;
-    put_gap(&mut out, met)?;
-    put_energy(alloc, &mut out, energy, bound)?;
-    put_counts(alloc, &mut out, cells, splits)?;
-    put_phases(alloc, &mut out, rules, speeds)?;
-    put_times(alloc, &mut out, rules, speeds)?;
-    put_speeds(alloc, &mut out, speeds)?;
-    put_line(&mut out, b"end")?;
+    put_advice(alloc, &mut out, rules, speeds.as_slice(), &figures)?;
+    put_certificate(alloc, &mut out, certificate)?;
     Ok(out)
 }
