@@ -1,3 +1,4 @@
+pub mod Check
 pub mod Plan
 pub mod Words
 pub mod Outcome

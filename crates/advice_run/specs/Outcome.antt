@@ -1,37 +1,57 @@
 -- What a run of the program leaves: its status and what it writes, and when a fault may come.
-use Rattle.std.specs.Prelude.{ℕ, ◌≡◌, ◌≤◌, ◌++◌, List, [], Option, Result, Ok, Err, String, string_bytes, codes, drop}
+use Rattle.std.specs.Prelude.{ℕ, ◌≡◌, ◌≤◌, ◌++◌, ◌==◌, ℤ, List, [], Option, Some, None, Result, Ok, Err, String, string_bytes, codes, drop, if◌then◌else◌}
 use Rattle.std.specs.Prelude.{length, map, take, ◌⊎◌}
 use Rattle.std.specs.declared.alloc.Global.{Global}
 use Rattle.line_file.specs.declared.line.Line.{Line}
 use Rattle.line_file.specs.declared.service.Service.{Service}
 use Rattle.train_file.specs.declared.train.Train.{Train}
 use Rattle.rail_specs.specs.Rules.{Rules}
-use Rattle.rail_specs.specs.Cost.{traction_cost}
+use Rattle.rail_specs.specs.Cost.{regained_cost, traction_cost}
 use Rattle.rail_base.specs.Texts.{line as text_line}
 use Rattle.edge_io.specs.Faults.{Told, Appends}
 use Rattle.command_files.specs.Files.{MayAnswer}
 use Rattle.plan_files.specs.Kinds.{PlanEnds, PlanSays, RouteEnds, RouteSays}
 use Rattle.plan_files.specs.FreshRules.{FreshRules, IsRulesRefusal}
+use Rattle.advice_run.specs.Check.{CheckEnds, CheckSays, IsReportAnswer}
 use Rattle.advice_run.specs.Plan.{IsPlanAnswer}
-use Rattle.advice_run.specs.Words.{Command, Usage, Route, Plan}
+use Rattle.advice_run.specs.Words.{Command, Usage, Route, Plan, Check}
 
 -- the text about usage: a line for each command
 abbrev pub usage_text : List ℕ
 usage_text =
     text_line (codes "usage: advice route FILE [--splits N] [--tolerance N]")
     ++ text_line (codes "       advice plan LINE TRAIN SERVICE [--step N] [--splits N] [--tolerance N]")
+    ++ text_line (codes "       advice check LINE TRAIN SERVICE REPORT [--step N]")
 
 -- ---- answers to what files say
 
--- the answer to rules with so many splits, at this tolerance, where so many steps were counted: as many as the rules have
-abbrev pub IsRulesAnswer : ℕ → ℕ → ℕ → Rules → ℕ → List ℕ → Type 0
-IsRulesAnswer splits tolerance counted r status text = (counted ≡ length r.steps) × IsPlanAnswer traction_cost r splits tolerance status text
+-- the answer to rules at this cost of work, with so many splits, at this tolerance, where so many steps were counted: as many as the rules
+-- have
+abbrev pub IsRulesAnswer : (ℤ → ℤ) → ℕ → ℕ → Option ℕ → ℕ → Rules → ℕ → List ℕ → Type 0
+IsRulesAnswer cost splits tolerance regeneration counted r status text =
+    (counted ≡ length r.steps) × IsPlanAnswer cost r splits tolerance regeneration status text
+
+-- what a train's file says of the share that its brakes give back, in per mille: version 2 says one
+abbrev pub regeneration_of : Train → Option ℕ
+regeneration_of train = if train.version == 2 then Some train.regeneration else None
 
 -- the answer to a line, a train and a service, with a grid of this step, with so many splits, at this tolerance: that to their joined
 -- rules, or the refusal of these
 abbrev pub IsJoinedAnswer : Line → Train → Service → ℕ → ℕ → ℕ → ℕ → ℕ → List ℕ → Type 0
 IsJoinedAnswer line train service step splits tolerance counted =
-    MayAnswer (IsRulesRefusal line train service step) (FreshRules line train service step) (IsRulesAnswer splits tolerance counted)
+    MayAnswer (IsRulesRefusal line train service step) (FreshRules line train service step)
+    (IsRulesAnswer (regained_cost train.regeneration) splits tolerance (regeneration_of train) counted)
+
+-- the answer to rules and a report at this cost of work, where so many steps were counted: as many as the rules have
+abbrev pub IsRulesCheck : (ℤ → ℤ) → List ℕ → ℕ → Rules → ℕ → List ℕ → Type 0
+IsRulesCheck cost report counted r status text = (counted ≡ length r.steps) × IsReportAnswer cost r report status text
+
+-- the answer to a line, a train, a service and a report, with a grid of this step: the check of the report against their joined rules, or
+-- the refusal of these
+abbrev pub IsJoinedCheck : Line → Train → Service → List ℕ → ℕ → ℕ → ℕ → List ℕ → Type 0
+IsJoinedCheck line train service report step counted =
+    MayAnswer (IsRulesRefusal line train service step) (FreshRules line train service step)
+    (IsRulesCheck (regained_cost train.regeneration) report counted)
 
 -- ---- a run
 
@@ -40,10 +60,13 @@ IsJoinedAnswer line train service step splits tolerance counted =
 abbrev pub MayWrite : Command → (List ℕ → Told) → (List ℕ → ℕ) → (List ℕ → ℕ) → ℕ → ℕ → List ℕ → Type 0
 MayWrite Usage told before now counted status text = (counted ≡ 0) × (status ≡ 2) × (text ≡ usage_text)
 MayWrite (Route file splits tolerance) told before now counted status text =
-    MayAnswer (RouteEnds file told before now) (RouteSays file told) (λ said. IsRulesAnswer splits tolerance counted said.0) status text
+    MayAnswer (RouteEnds file told before now) (RouteSays file told) (λ said. IsRulesAnswer traction_cost splits tolerance None counted said.0) status text
 MayWrite (Plan line train service step splits tolerance) told before now counted status text =
     MayAnswer (PlanEnds line train service told before now) (PlanSays line train service told)
     (λ said. IsJoinedAnswer said.0 said.1.0 said.1.1.0 step splits tolerance counted) status text
+MayWrite (Check line train service report step) told before now counted status text =
+    MayAnswer (CheckEnds line train service report told before now) (CheckSays line train service report told)
+    (λ said. IsJoinedCheck said.0 said.1.0 said.1.1.0 said.1.1.1.0 step counted) status text
 
 -- a whole text that the run may write was written, with its own status
 pub record Wrote (command : Command) (told : List ℕ → Told) (before now : List ℕ → ℕ)
@@ -67,6 +90,7 @@ abbrev pub Names : Command → List ℕ → Type 0
 Names Usage name = ⊥
 Names (Route file splits tolerance) name = name ≡ file
 Names (Plan line train service step splits tolerance) name = (name ≡ line) ⊎ (name ≡ train) ⊎ (name ≡ service)
+Names (Check line train service report step) name = (name ≡ line) ⊎ (name ≡ train) ⊎ (name ≡ service) ⊎ (name ≡ report)
 
 -- ---- the words of the system
 

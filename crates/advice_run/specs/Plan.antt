@@ -1,8 +1,13 @@
 -- The answer to a plan: which text and which status the rules of a run allow.
-use Rattle.std.specs.Prelude.{ℕ, ◌≡◌, ℤ, List, ◌⊎◌, if◌then◌else◌}
+use Rattle.std.specs.Prelude.{ℕ, ◌≡◌, ℤ, List, Option, Ok, ◌⊎◌, if◌then◌else◌}
 use Rattle.rail_specs.specs.Rules.{Rules, IsGreatestDrive, NoDrive, timing_at}
 use Rattle.rail_specs.specs.Times.{NoneOnTime, IsFirstLate, arrival_up}
-use Rattle.bound_specs.specs.Cells.{cell_count}
+use Rattle.certificate_checker.specs.Holds.{Holds}
+use Rattle.dual_certificate.specs.declared.certificate.Certificate.{Certificate}
+use Rattle.dual_certificate.specs.Grammar.{certificate_in}
+use Rattle.dual_certificate.specs.Part.{certificate_part}
+use Rattle.dual_certificate.specs.Text.{IsCertificate}
+use Rattle.planner.specs.Certificates.{IsCertificateOf}
 use Rattle.planner.specs.Plans.{IsSomePlan}
 use Rattle.planner.specs.declared.answer.Plan.{Plan as PlanData}
 use Rattle.drive_report.specs.Report.{no_drive_text, late_text, report_text}
@@ -21,16 +26,21 @@ pub record IsLateAnswer (r : Rules) (status : ℕ) (text : List ℕ) (speeds : L
   pub ends : status ≡ 5
   pub says : text ≡ late_text r j (arrival_up r speeds (timing_at r j).point)
 
--- a plan: its drive, energy, bound and counts are those of the text; status 0 where the gap is met, 1 where it is open
-pub record IsDriveAnswer (cost : ℤ → ℤ) (r : Rules) (splits tolerance status : ℕ) (text : List ℕ) (p : PlanData) : Type 0 where
+-- a plan: the text is the report of its certificate, which holds, and which whoever checks the text reads; status 0 where the gap is met, 1
+-- where it is open
+pub record IsDriveAnswer (cost : ℤ → ℤ) (r : Rules) (splits tolerance : ℕ) (regeneration : Option ℕ) (status : ℕ) (text : List ℕ) (p : PlanData) (c : Certificate) : Type 0 where
   pub plan : IsSomePlan cost r splits tolerance p
+  pub certificate : IsCertificateOf p c
+  pub in_range : IsCertificate c
+  pub holds : Holds cost r c
   pub ends : status ≡ (if p.met then 0 else 1)
-  pub says : text ≡ report_text r p.drive p.cost p.bound p.met (cell_count p.cells) p.splits
+  pub says : text ≡ report_text r c p.met p.splits regeneration
+  pub reads : certificate_in (certificate_part text) ≡ Ok c
 
 -- the text and the status are an answer for the rules at this cost of work, where so many splits are allowed, and at this tolerance in per
--- mille
-abbrev pub IsPlanAnswer : (ℤ → ℤ) → Rules → ℕ → ℕ → ℕ → List ℕ → Type 0
-IsPlanAnswer cost r splits tolerance status text =
+-- mille; for a train whose file says so with the share that its brakes give back, in per mille
+abbrev pub IsPlanAnswer : (ℤ → ℤ) → Rules → ℕ → ℕ → Option ℕ → ℕ → List ℕ → Type 0
+IsPlanAnswer cost r splits tolerance regeneration status text =
     IsNoDriveAnswer r status text
     ⊎ (((speeds : List ℕ) × ((j : ℕ) × IsLateAnswer r status text speeds j))
-    ⊎ ((p : PlanData) × IsDriveAnswer cost r splits tolerance status text p))
+    ⊎ ((p : PlanData) × ((c : Certificate) × IsDriveAnswer cost r splits tolerance regeneration status text p c)))

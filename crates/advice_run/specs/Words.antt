@@ -17,6 +17,9 @@ pub data Command : Type 0 where
   -- a plan over the line, by the train and for the service in the files of these names, with a grid of this step in metres, with so many
   -- splits of cells, at this tolerance in per mille
   Plan : List ℕ → List ℕ → List ℕ → ℕ → ℕ → ℕ → Command
+  -- the check of the report in the last file, over the line, by the train and for the service in the first three, with a grid of this step
+  -- in metres
+  Check : List ℕ → List ℕ → List ℕ → List ℕ → ℕ → Command
 
 -- ---- the simple commands
 
@@ -40,6 +43,13 @@ plan_app =
     with_rule (with_rule (with_rule (with_rule (with_rule (with_rule (new_app (codes "plan")) (positional (codes "line")))
     (positional (codes "train"))) (positional (codes "service")))
     (option (codes "step") (codes "100"))) (option (codes "splits") (codes "2000"))) (option (codes "tolerance") (codes "10"))
+
+-- `check LINE TRAIN SERVICE REPORT [--step N]`
+abbrev pub check_app : App
+check_app =
+    with_rule (with_rule (with_rule (with_rule (with_rule (new_app (codes "check")) (positional (codes "line")))
+    (positional (codes "train"))) (positional (codes "service"))) (positional (codes "report")))
+    (option (codes "step") (codes "100"))
 
 -- ---- what clap takes of the words, and what the texts that it takes mean
 
@@ -87,12 +97,28 @@ plan_of_numbers line train service (Some step) None tolerance = Usage
 plan_of_numbers line train service (Some step) (Some splits) None = Usage
 plan_of_numbers line train service (Some step) (Some splits) (Some tolerance) = Plan line train service step splits tolerance
 
--- `plan`, with a step of 10 to 1,000 metres
+-- the step of the grid among the rows, 10 to 1,000 metres
+abbrev pub step_in : List Row → Option ℕ
+step_in rows = number_in 10 1000 (value_of (codes "step") rows)
+
+-- `plan`
 abbrev pub plan_of_rows : Option (List Row) → Command
 plan_of_rows None = Usage
 plan_of_rows (Some rows) =
     plan_of_numbers (value_of (codes "line") rows) (value_of (codes "train") rows) (value_of (codes "service") rows)
-    (number_in 10 1000 (value_of (codes "step") rows)) (splits_in rows) (tolerance_in rows)
+    (step_in rows) (splits_in rows) (tolerance_in rows)
+
+-- `check` of the files of these names, or the usage where a number isn't one in its range
+abbrev pub check_of_step : Text → Text → Text → Text → Option ℕ → Command
+check_of_step line train service report None = Usage
+check_of_step line train service report (Some step) = Check line train service report step
+
+-- `check`
+abbrev pub check_of_rows : Option (List Row) → Command
+check_of_rows None = Usage
+check_of_rows (Some rows) =
+    check_of_step (value_of (codes "line") rows) (value_of (codes "train") rows) (value_of (codes "service") rows)
+    (value_of (codes "report") rows) (step_in rows)
 
 -- the command of a list of words
 abbrev pub command_of : List (List ℕ) → Command
@@ -100,10 +126,12 @@ command_of [] = Usage
 command_of (word ∷ words) =
     if bytes_eq word (codes "route") then route_of_rows (taken route_app (word ∷ words))
     else if bytes_eq word (codes "plan") then plan_of_rows (taken plan_app (word ∷ words))
+    else if bytes_eq word (codes "check") then check_of_rows (taken check_app (word ∷ words))
     else Usage
 
 -- the command of words whose first word is this
 abbrev pub command_by : FirstWord → List (List ℕ) → Command
 command_by first_word.Route words = route_of_rows (taken route_app words)
 command_by first_word.Plan words = plan_of_rows (taken plan_app words)
+command_by first_word.Check words = check_of_rows (taken check_app words)
 command_by first_word.Other words = Usage

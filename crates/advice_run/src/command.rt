@@ -4,7 +4,8 @@ ghost use Rattle.std.specs.Prelude.{◌≡◌, ◌≤◌, ◌-◌, ℕ, List, If
 ghost use Rattle.advice_run.specs.Words.{command_by, command_of};
 ghost use Rattle.advice_run.specs.Outcome.{MayWrite, Names};
 
-use crate::command_line::{read_plan_words, read_route_words};
+use crate::check::answer_check;
+use crate::command_line::{read_check_words, read_plan_words, read_route_words};
 use crate::plan::answer_plan;
 use crate::route::answer_route;
 use crate::usage::usage;
@@ -23,6 +24,8 @@ pub enum FirstWord {
     Route,
     /// `plan`.
     Plan,
+    /// `check`.
+    Check,
     /// Another word, or none.
     Other,
 }
@@ -37,6 +40,7 @@ fn first_word(words: &Words) -> FirstWord
     match words.get(0) {
         "route" => FirstWord::Route,
         "plan" => FirstWord::Plan,
+        "check" => FirstWord::Check,
         _ => FirstWord::Other,
     }
 }
@@ -58,6 +62,7 @@ pub fn answer<S: Shelf, L: Ledger>(
     match first_word(words) {
         FirstWord::Route => answer_route_words(alloc, words, shelf, boxes, steps),
         FirstWord::Plan => answer_plan_words(alloc, words, shelf, boxes, steps),
+        FirstWord::Check => answer_check_words(alloc, words, shelf, steps),
         FirstWord::Other => usage(alloc),
     }
 }
@@ -98,6 +103,25 @@ fn answer_plan_words<S: Shelf, L: Ledger>(
 {
     match read_plan_words(alloc, words)? {
         Some(asked) => answer_plan(alloc, &asked, shelf, boxes, steps),
+        None => usage(alloc),
+    }
+}
+
+/// The answer to words that begin with `check`.
+fn answer_check_words<S: Shelf, L: Ledger>(
+    alloc: Global,
+    words: &Words,
+    shelf: &mut S,
+    steps: &mut Steps<L>,
+) -> Result<Answer, AllocError>
+    ensures may { IfOk result (λ a. MayWrite (command_by FirstWord.Check words.now) (S.contents shelf.old) (S.faults shelf.old)
+        (S.faults shelf.new) (steps.new - steps.old) a.status a.text.items) }
+    ensures kept { (n : List ℕ) → S.contents shelf.new n ≡ S.contents shelf.old n }
+    ensures later { (n : List ℕ) → S.faults shelf.old n ≤ S.faults shelf.new n }
+    ensures others { (n : List ℕ) → (Names (command_by FirstWord.Check words.now) n → ⊥) → S.faults shelf.new n ≡ S.faults shelf.old n }
+{
+    match read_check_words(alloc, words)? {
+        Some(asked) => answer_check(alloc, &asked, shelf, steps),
         None => usage(alloc),
     }
 }

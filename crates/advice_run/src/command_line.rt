@@ -2,7 +2,7 @@
 
 ghost use Rattle.std.specs.Prelude.{◌≡◌, ◌≤◌, ◌<◌, ◌^◌, ℕ, Some, true, IfOk, IfSome, MatchOption, option_map};
 ghost use Rattle.clap.specs.Words.{app_of, found_of, is_simple_and_free, rows_of, with_rule};
-ghost use Rattle.advice_run.specs.Words.{Plan, Route, Usage, number_in, option, plan_app, plan_of_rows};
+ghost use Rattle.advice_run.specs.Words.{Check, Plan, Route, Usage, check_app, check_of_rows, number_in, option, plan_app, plan_of_rows};
 ghost use Rattle.advice_run.specs.Words.{positional, route_app, route_of_rows, taken, value_of};
 
 use crate::words::Words;
@@ -60,6 +60,19 @@ fn plan_command<'a>(alloc: Global) -> Result<Command<'a>, AllocError>
     let command = with_option(alloc, command, "step", "100")?;
     let command = with_option(alloc, command, "splits", "2000")?;
     let command = with_option(alloc, command, "tolerance", "10")?;
+    Ok(command)
+}
+
+/// The command `check LINE TRAIN SERVICE REPORT [--step N]`.
+fn check_command<'a>(alloc: Global) -> Result<Command<'a>, AllocError>
+    ensures { IfOk result (λ c. app_of c ≡ check_app) }
+{
+    let command = Command::new(alloc, "check");
+    let command = with_name(alloc, command, "line")?;
+    let command = with_name(alloc, command, "train")?;
+    let command = with_name(alloc, command, "service")?;
+    let command = with_name(alloc, command, "report")?;
+    let command = with_option(alloc, command, "step", "100")?;
     Ok(command)
 }
 
@@ -193,5 +206,51 @@ fn plan_words<'a>(matches: &ArgMatches<'a>) -> Option<PlanWords<'a>>
         step,
         splits,
         tolerance,
+    })
+}
+
+/// The names and the number of the command `check`.
+#[derive(Drop)]
+pub struct CheckWords<'a> {
+    /// The name of the line's file.
+    pub line: &'a str,
+    /// The name of the train's file.
+    pub train: &'a str,
+    /// The name of the service's file.
+    pub service: &'a str,
+    /// The name of the report's file.
+    pub report: &'a str,
+    /// The step of the grid, m, 10 to 1,000.
+    pub step: u32,
+    pub ghost step_within: { (10 ≤ step) × (step ≤ 1000) },
+}
+
+/// The names and the number of the command `check`, or none where the words are refused.
+pub fn read_check_words<'a>(
+    alloc: Global,
+    words: &'a Words,
+) -> Result<Option<CheckWords<'a>>, AllocError>
+    ensures { IfOk result (λ r. MatchOption r (check_of_rows (taken check_app words.entry.now) ≡ Usage)
+        (λ w. check_of_rows (taken check_app words.entry.now) ≡ Check w.line.now w.train.now w.service.now w.report.now w.step)) }
+{
+    let command = check_command(alloc)?;
+    match matches_of(command, words)? {
+        Some(matches) => Ok(check_words(&matches)),
+        None => Ok(None),
+    }
+}
+
+/// What the matches of the command `check` say, or none where the number is refused.
+fn check_words<'a>(matches: &ArgMatches<'a>) -> Option<CheckWords<'a>>
+    ensures { MatchOption result (check_of_rows (Some (rows_of (found_of matches.now))) ≡ Usage)
+        (λ w. check_of_rows (Some (rows_of (found_of matches.now))) ≡ Check w.line.now w.train.now w.service.now w.report.now w.step) }
+{
+    let step = number_in(value_of(matches, "step"), 10, 1000)?;
+    Some(CheckWords {
+        line: value_of(matches, "line"),
+        train: value_of(matches, "train"),
+        service: value_of(matches, "service"),
+        report: value_of(matches, "report"),
+        step,
     })
 }

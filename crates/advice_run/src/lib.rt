@@ -2,10 +2,12 @@
 #![tactic(auto)]
 
 mod arguments;
+mod check;
 mod command;
 mod command_line;
 mod plan;
 mod program;
+mod report_file;
 mod route;
 mod rules;
 mod usage;

@@ -4,7 +4,7 @@ ghost use Rattle.std.specs.Prelude.{◌≡◌, ◌≢◌, ◌≤◌, ◌-◌, �
 ghost use Rattle.line_file.specs.Shape.{IsLine, IsService};
 ghost use Rattle.train_file.specs.Shape.{IsTrain};
 ghost use Rattle.advice_run.specs.Words.{Plan};
-ghost use Rattle.advice_run.specs.Outcome.{IsJoinedAnswer, MayWrite, Names};
+ghost use Rattle.advice_run.specs.Outcome.{IsJoinedAnswer, MayWrite, Names, regeneration_of};
 
 use crate::command_line::PlanWords;
 use crate::rules::rules_answer;
@@ -14,11 +14,22 @@ use line_file::{Line, Service};
 use plan_files::{LineFile, ServiceFile, TrainFile, fresh_rules};
 use planner::Options;
 use proposers::Proposer;
-use rail_base::Traction;
+use rail_base::Regained;
 use std::alloc::{AllocError, Global};
 use std::sync::ledger::Ledger;
 use step_energy::Steps;
 use train_file::Train;
+
+/// What a train's file says of the share that its brakes give back, in per mille: version 2 says one.
+fn regeneration_of(train: &Train) -> Option<u16>
+    ensures { result ≡ regeneration_of train.now }
+{
+    if train.version == 2 {
+        Some(train.regeneration)
+    } else {
+        None
+    }
+}
 
 /// The answer to a line, a train and a service. The boxes propose drives.
 fn joined_answer<L: Ledger>(
@@ -42,7 +53,10 @@ fn joined_answer<L: Ledger>(
                 splits: asked.splits,
                 tolerance: asked.tolerance,
             };
-            rules_answer(alloc, &rules, &Traction, options, boxes)
+            let cost = Regained {
+                share: train.regeneration,
+            };
+            rules_answer(alloc, &rules, &cost, options, regeneration_of(train), boxes)
         }
         Stage::Ends(answer) => Ok(answer),
     }

@@ -17,7 +17,7 @@ use step_energy::Steps;
 /// Does all that the program does: reads what the words ask for, fetches the files that they name, and writes one text.
 /// It gives the status that the program ends with:
 ///
-/// - 0: a drive is on time, and the gap between its energy and the bound is within the tolerance;
+/// - 0: a drive is on time, and the gap between its energy and the bound is within the tolerance; or the certificate holds;
 /// - 1: a drive is on time, and the gap is wider;
 /// - 2: the words ask for nothing, and the usage is written;
 /// - 3: a file is too long or is refused, at its first fault, or the rules that the files give together are;
@@ -25,7 +25,8 @@ use step_energy::Steps;
 /// - 5: there is a drive, and none is on time;
 /// - 6: a file can't be read;
 /// - 7: the text, or a part of it, can't be written;
-/// - 8: there is no memory, and nothing is written.
+/// - 8: there is no memory, and nothing is written;
+/// - 9: the certificate is refused.
 ///
 /// The boxes propose drives for every plan of the run. What they offer is judged, so that any boxes may be handed in; after a plan those of
 /// which nothing was taken are dropped. `steps` counts the rows of steps that are made: where rules are answered, as many as they have.

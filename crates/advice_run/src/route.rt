@@ -41,7 +41,7 @@ pub fn answer_route<S: Shelf, L: Ledger>(
                 splits: asked.splits,
                 tolerance: asked.tolerance,
             };
-            rules_answer(alloc, &said.0, &Traction, options, boxes)
+            rules_answer(alloc, &said.0, &Traction, options, None, boxes)
         }
         Stage::Ends(answer) => Ok(answer),
     }

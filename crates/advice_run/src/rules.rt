@@ -7,23 +7,25 @@ ghost use Rattle.advice_run.specs.Plan.{IsPlanAnswer};
 use command_files::{Answer, status};
 use drive_report::{late_text, no_drive_text, report};
 use drive_rules::Rules;
-use planner::{Answer as Planned, Options, Plan, plan};
+use planner::{Answer as Planned, Options, Plan, certificate, plan};
 use proposers::{Proposer, drop_silent};
 use rail_base::StepCost;
 use std::alloc::{AllocError, Global};
 
 /// The answer to the rules of a run at a cost of work: a plan, with so many splits of cells and at this tolerance. The boxes propose
-/// drives; once there is a plan, those of which nothing was taken are dropped.
+/// drives; once there is a plan, those of which nothing was taken are dropped. `regeneration` is the share that the brakes give back, where
+/// the train's file says one, in per mille: the report has it then.
 pub fn rules_answer<C: StepCost>(
     alloc: Global,
     rules: &Rules,
     cost: &C,
     options: Options,
+    regeneration: Option<u16>,
     boxes: &mut Vec<Box<dyn Proposer>>,
 ) -> Result<Answer, AllocError>
     requires splits { options.splits ≤ 50000 }
     requires tolerance { options.tolerance ≤ 1000 }
-    ensures { IfOk result (λ a. IsPlanAnswer (C.cost cost.now) rules.now options.splits options.tolerance a.status a.text.items) }
+    ensures { IfOk result (λ a. IsPlanAnswer (C.cost cost.now) rules.now options.splits options.tolerance regeneration a.status a.text.items) }
 {
     match plan(alloc, rules, cost, options, boxes)? {
         Planned::NoDrive => {
@@ -42,36 +44,38 @@ pub fn rules_answer<C: StepCost>(
         }
         Planned::Drive(plan) => {
             drop_silent(boxes);
-            plan_answer(alloc, rules, cost, options, &plan)
+            plan_answer(alloc, rules, cost, options, regeneration, &plan)
         }
     }
 }
 
-/// The answer that a plan gives.
+/// The answer that a plan gives: the report of its certificate.
 fn plan_answer<C: StepCost>(
     alloc: Global,
     rules: &Rules,
     cost: &C,
     options: Options,
+    regeneration: Option<u16>,
     plan: &Plan,
 ) -> Result<Answer, AllocError>
-    requires { IsSomePlan (C.cost cost.now) rules.now options.splits options.tolerance plan.now }
-    ensures { IfOk result (λ a. IsPlanAnswer (C.cost cost.now) rules.now options.splits options.tolerance a.status a.text.items) }
+    requires splits { options.splits ≤ 50000 }
+    requires plan { IsSomePlan (C.cost cost.now) rules.now options.splits options.tolerance plan.now }
+    ensures { IfOk result (λ a. IsPlanAnswer (C.cost cost.now) rules.now options.splits options.tolerance regeneration a.status a.text.items) }
 {
     // Only the contract speaks of these two: the plan is one at this cost, within these options.
     let _ = cost;
     let _ = options;
-    let cells = plan.cells.count() as u64;
-    let speeds = plan.drive.speeds();
+    rules.known();
+    plan.prices.known();
+    rules.known_drive(plan.drive.speeds());
+    let certificate = certificate(alloc, plan)?;
     let text = report(
         alloc,
         rules,
-        speeds,
-        plan.cost,
-        plan.bound,
+        &certificate,
         plan.met,
-        cells,
         plan.splits,
+        regeneration,
     )?;
     let status = if plan.met {
         status::GAP_MET

@@ -1,9 +1,12 @@
 //! The statuses that the program ends with.
 
-/// The greatest drive is on time, and the gap between its energy and the bound is within the tolerance.
+/// A drive is on time, and the gap between its energy and the bound is within the tolerance.
 pub const GAP_MET: u8 = 0;
 
-/// The greatest drive is on time, and the gap is wider.
+/// The certificate holds.
+pub const CERTIFIED: u8 = 0;
+
+/// A drive is on time, and the gap is wider.
 pub const GAP_OPEN: u8 = 1;
 
 /// The words ask for nothing.
@@ -26,3 +29,6 @@ pub const WRITE_FAULT: u8 = 7;
 
 /// There is no memory.
 pub const NO_MEMORY: u8 = 8;
+
+/// The certificate is refused.
+pub const CERTIFICATE_REFUSED: u8 = 9;

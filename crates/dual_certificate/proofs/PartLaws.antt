@@ -1,5 +1,5 @@
 -- Where the certificate part of a report begins.
-use Rattle.std.proofs.Common.{◌≡◌, ◌<◌, ◌+◌, ◌∷◌, ◌++◌, ◌∙◌, ℕ, suc, List, [], true, false, Some, None, refl, sym, ap, subst, arith, length, get_or, take, drop, eqb, length-append, codes, inl, inr}
+use Rattle.std.proofs.Common.{◌≡◌, ◌<◌, ◌+◌, ◌^◌, ◌∷◌, ◌++◌, ◌∙◌, ℕ, suc, ℤ, List, [], true, false, Some, None, refl, sym, ap, subst, arith, length, get_or, take, drop, eqb, length-append, append_assoc, codes, inl, inr}
 use Rattle.std.specs.List.{position_or_len}
 use Rattle.std.specs.Str.{bytes_eq}
 use Rattle.std.proofs.lemmas.List.{take-append-drop, get_or-take, length-take}
@@ -7,10 +7,13 @@ use Rattle.std.proofs.lemmas.List.Sums.{fails_before_first}
 use Rattle.std.proofs.lemmas.Slice.Eq.{bytes_eq-Decides}
 use Rattle.std.proofs.lemmas.Bool.{cases_lt, cases_Bool, lt-ltb, le-ltb}
 use Rattle.rail_base.specs.Lines.{begins}
-use Rattle.rail_base.specs.Texts.{line}
+use Rattle.std.specs.Int.RustNames.{unsigned_abs}
+use Rattle.rail_base.specs.Texts.{line, spaced}
 use Rattle.dual_certificate.specs.Grammar.{cut}
-use Rattle.dual_certificate.specs.Part.{part_from}
-use Rattle.dual_certificate.proofs.Numerals.{Lacks}
+use Rattle.dual_certificate.specs.declared.certificate.Certificate.{Certificate}
+use Rattle.dual_certificate.specs.Part.{part_from, certificate_part, IsPassed}
+use Rattle.dual_certificate.specs.Text.{text_of}
+use Rattle.dual_certificate.proofs.Numerals.{Lacks, signed_lacks}
 use Rattle.dual_certificate.proofs.Cuts.{cut_takes, cut_again}
 
 lacks_each : (b : ℕ) (xs : List ℕ) → ((k : ℕ) → k < length xs → eqb (get_or xs k 0) b ≡ false) → Lacks b xs
@@ -93,3 +96,20 @@ none_found text e = over_last text (uncut_lacks 10 text e) (no_line text e)
 
 pub cut_shorter : (b : ℕ) (text : List ℕ) (p : List ℕ × List ℕ) → cut b text ≡ Some p → length p.1 < length text
 cut_shorter b text p e = omega (arith, ap length (cut_takes b text p e), length-append p.0 (b ∷ p.1))
+
+-- ---- what is passed over
+
+pub passed_append : (a b : List ℕ) → IsPassed a → IsPassed b → IsPassed (a ++ b)
+passed_append a b h g rest = ap certificate_part (append_assoc a b rest) ∙ h (b ++ rest) ∙ g rest
+
+-- a line that doesn't begin as the title does
+pub passed_line : (l : List ℕ) → Lacks 10 l → ((r : List ℕ) → begins (line (codes "certificate 1")) (l ++ 10 ∷ r) ≡ false) → IsPassed (line l)
+passed_line l lacks other rest = ap certificate_part (append_assoc l (10 ∷ []) rest) ∙ over_line l rest lacks (other rest)
+
+pub spaced_lacks : (z : ℤ) → unsigned_abs z < 10 ^ 64 → Lacks 10 (spaced z)
+spaced_lacks z small = (refl, signed_lacks 10 z small (inl (omega arith)) refl)
+
+-- a certificate's text is its own certificate part
+pub part_of_text : (c : Certificate) → certificate_part (text_of c) ≡ text_of c
+unfolding text_of
+part_of_text c = refl

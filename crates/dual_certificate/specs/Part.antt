@@ -1,5 +1,5 @@
 -- Where a report has its certificate.
-use Rattle.std.specs.Prelude.{ℕ, ◌==◌, ◌&&◌, Bool, true, List, [], ◌∷◌, codes, if◌then◌else◌}
+use Rattle.std.specs.Prelude.{ℕ, ◌==◌, ◌&&◌, ◌≡◌, Bool, true, List, [], ◌∷◌, ◌++◌, codes, if◌then◌else◌}
 use Rattle.rail_base.specs.Lines.{begins}
 use Rattle.rail_base.specs.Texts.{line}
 
@@ -13,3 +13,7 @@ part_from at_start (b ∷ bs) =
 -- the certificate part of a report
 abbrev pub certificate_part : List ℕ → List ℕ
 certificate_part text = part_from true text
+
+-- a text that isn't looked at further: the certificate part of a report that begins with it is that of what stands behind it
+abbrev pub IsPassed : List ℕ → Type 0
+IsPassed front = (rest : List ℕ) → certificate_part (front ++ rest) ≡ certificate_part rest

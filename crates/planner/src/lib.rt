@@ -7,6 +7,7 @@
 #![tactic(auto)]
 
 mod answer;
+mod certificates;
 mod finish;
 mod goal;
 mod planning;
@@ -15,4 +16,5 @@ mod start;
 mod work;
 
 pub use answer::{Answer, Options, Plan};
+pub use certificates::certificate;
 pub use planning::plan;

@@ -1,0 +1,82 @@
+-- The answer to the check of a report.
+use Rattle.std.specs.Prelude.{ℕ, ◌≡◌, ◌≢◌, ℤ, List, [], ⊤, None, Some, IfSome, Result, Ok, Err, codes, ◌⊎◌}
+use Rattle.rail_specs.specs.Rules.{Rules}
+use Rattle.rail_specs.specs.Ranges.{AreRanges, no_narrowing}
+use Rattle.edge_io.specs.Faults.{Told}
+use Rattle.command_files.specs.Answers.{refused_text}
+use Rattle.command_files.specs.Files.{Kind, Says, first_ends}
+use Rattle.line_file.specs.declared.line.Line.{Line}
+use Rattle.line_file.specs.declared.service.Service.{Service}
+use Rattle.train_file.specs.declared.train.Train.{Train}
+use Rattle.plan_files.specs.Kinds.{line_kind, service_kind, train_kind}
+use Rattle.dual_certificate.specs.declared.certificate.Certificate.{Certificate}
+use Rattle.dual_certificate.specs.declared.fault.CertFault.{CertFault}
+use Rattle.dual_certificate.specs.declared.fault.CertFault.TheVariants.{NoMemory as NoMemoryToRead}
+use Rattle.dual_certificate.specs.Grammar.{certificate_in}
+use Rattle.dual_certificate.specs.Part.{certificate_part}
+use Rattle.certificate_checker.specs.declared.refused.Refused.{Refused}
+use Rattle.certificate_checker.specs.declared.refused.Refused.TheVariants.{NoMemory as NoMemoryToCheck}
+use Rattle.certificate_checker.specs.Holds.{Holds, Shows}
+use Rattle.certificate_checker.specs.Refusals.{Refuses, early_refusal, late_refusal}
+use Rattle.certificate_words.specs.Words.{certified_text, fault_words, refused_words}
+use Rattle.advice_run.specs.declared.report_file.ReportFault.{ReportFault}
+
+-- ---- the files
+
+-- a report: any text
+abbrev pub report_kind : Kind (List ℕ) ReportFault
+report_kind = record { role = codes "report"; most = 8388608; read = λ text. Ok text; words = λ fault. [] }
+
+-- a run may end at one of the files of a line, a train, a service and a report, read in this order
+abbrev pub CheckEnds : List ℕ → List ℕ → List ℕ → List ℕ → (List ℕ → Told) → (List ℕ → ℕ) → (List ℕ → ℕ) → ℕ → List ℕ → Type 0
+CheckEnds line train service report told before now =
+    first_ends line_kind line told before now
+    (first_ends train_kind train told before now
+    (first_ends service_kind service told before now (first_ends report_kind report told before now (λ _ _. ⊥))))
+
+-- what these files may say
+abbrev pub CheckSays : List ℕ → List ℕ → List ℕ → List ℕ → (List ℕ → Told) → Line × (Train × (Service × (List ℕ × ⊤))) → Type 0
+CheckSays line train service report told said =
+    Says line_kind line told said.0
+    × (Says train_kind train told said.1.0
+    × (Says service_kind service told said.1.1.0 × (Says report_kind report told said.1.1.1.0 × ⊤)))
+
+-- ---- the answer
+
+-- the certificate is refused in these words: status 9
+pub record IsRefusedIn (words : List ℕ) (status : ℕ) (text : List ℕ) : Type 0 where
+  pub ends : status ≡ 9
+  pub says : text ≡ refused_text (codes "certificate") words
+
+-- a certificate holds for the rules at this cost of work, so that its energy is that of a drive on time and no drive on time costs less than
+-- its bound, whoever wrote it: status 0, with energy and bound
+pub record IsCertified (cost : ℤ → ℤ) (r : Rules) (c : Certificate) (status : ℕ) (text : List ℕ) : Type 0 where
+  pub holds : Holds cost r c
+  pub shows : Shows cost r c
+  pub ends : status ≡ 0
+  pub says : text ≡ certified_text c.energy c.bound
+
+-- a certificate doesn't hold, and this condition is the first that fails: status 9, with the condition's words
+pub record IsNotHeld (cost : ℤ → ℤ) (r : Rules) (c : Certificate) (e : Refused) (status : ℕ) (text : List ℕ) : Type 0 where
+  pub sound : e ≢ NoMemoryToCheck
+  pub fails : Holds cost r c → ⊥
+  pub early : IfSome (early_refusal cost r c) (λ first. Refuses {Certificate} (Err e) (Some first))
+  pub late : early_refusal cost r c ≡ None → (least greatest : List ℕ) → AreRanges r no_narrowing least greatest
+      → Refuses {Certificate} (Err e) (late_refusal cost r c least greatest)
+  pub says : IsRefusedIn (refused_words e) status text
+
+-- the answer to a certificate
+abbrev pub IsCertificateAnswer : (ℤ → ℤ) → Rules → Certificate → ℕ → List ℕ → Type 0
+IsCertificateAnswer cost r c status text = IsCertified cost r c status text ⊎ ((e : Refused) × IsNotHeld cost r c e status text)
+
+-- the certificate part of a report isn't of its form, and this is its first fault: status 9, with the fault's words
+pub record IsNoCertificate (report : List ℕ) (e : CertFault) (status : ℕ) (text : List ℕ) : Type 0 where
+  pub sound : e ≢ NoMemoryToRead
+  pub refused : certificate_in (certificate_part report) ≡ Err e
+  pub says : IsRefusedIn (fault_words e) status text
+
+-- the answer to a report: that to the certificate that its certificate part is, or the part's first fault
+abbrev pub IsReportAnswer : (ℤ → ℤ) → Rules → List ℕ → ℕ → List ℕ → Type 0
+IsReportAnswer cost r report status text =
+    ((c : Certificate) × ((certificate_in (certificate_part report) ≡ Ok c) × IsCertificateAnswer cost r c status text))
+    ⊎ ((e : CertFault) × IsNoCertificate report e status text)
