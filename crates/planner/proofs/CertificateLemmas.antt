@@ -5,7 +5,6 @@ use Rattle.std.specs.Int.RustNames.{unsigned_abs}
 use Rattle.bound_specs.specs.declared.Cell.{Cell}
 use Rattle.bound_specs.specs.Cells.{no_cell, IsCell, AreAdjacent}
 use Rattle.dual_certificate.specs.declared.certificate.CertCell.{CertCell}
-use Rattle.dual_certificate.specs.declared.certificate.CertPoint.{CertPoint}
 use Rattle.dual_certificate.specs.Contents.{no_cert_cell, cells_up_to}
 use Rattle.dual_certificate.specs.Text.{IsModest, RiseFrom, IsPoint}
 

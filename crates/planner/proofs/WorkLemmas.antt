@@ -1,6 +1,6 @@
 -- Whole cells, and gaps that are met.
 use Rattle.std.proofs.Common.{ℕ, zero, suc, ◌+◌, ◌<◌, ◌≤◌, ◌≡◌, ◌∙◌, List, [], ◌∷◌, Option, Some, None, length, map, refl, sym, ap, subst, arith}
-use Rattle.std.specs.Prelude.{ℤ, zip, slice_index, slice_index_or, sum_by}
+use Rattle.std.specs.Prelude.{ℤ, zip, slice_index, slice_index_or}
 use Rattle.std.proofs.lemmas.Int.{ints}
 use Rattle.std.proofs.lemmas.List.Sums.{sum_by-cons}
 use Rattle.std.proofs.lemmas.List.{length-map}

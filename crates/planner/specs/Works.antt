@@ -1,5 +1,5 @@
 -- Cells that a search for a bound works on.
-use Rattle.std.specs.Prelude.{ℕ, ◌+◌, ◌*◌, ◌≤◌, ◌≡◌, ℤ, List, Option, Some, None, length, map, zip, ⊤}
+use Rattle.std.specs.Prelude.{ℕ, ◌+◌, ◌≤◌, ◌≡◌, ℤ, List, Option, Some, None, length, map, zip, ⊤}
 use Rattle.bound_specs.specs.declared.Cell.{Cell}
 use Rattle.rail_specs.specs.Rules.{Rules}
 use Rattle.rail_specs.specs.Ranges.{AreRanges, no_narrowing}

@@ -1,6 +1,4 @@
 use Rattle.std.proofs.Common.{◌≡◌, ◌+◌, sym, subst, arith, inl, inr, length}
-use Rattle.std.specs.Prelude.{◌⊎◌}
-use Rattle.bound_specs.specs.Cells.{cell_count, AreSingle}
 use Rattle.planner.specs.Works.{AreSplit}
 use Rattle.planner.proofs.WorkLemmas.{met_rises}
 use Rattle.planner.proofs.finish.finished.Goals as goal

@@ -1,10 +1,9 @@
-use Rattle.std.proofs.Common.{ℕ, ◌≡◌, ◌+◌, Option, Some, List, subst, sym, arith, inl, inr, length, to_z, of_z}
+use Rattle.std.proofs.Common.{◌≡◌, ◌+◌, Some, arith, inl, inr, length, to_z, of_z}
 use Rattle.std.specs.Prelude.{ℤ, ◌↔◌, ◌⊎◌, IsTrue}
 use Rattle.rail_specs.specs.Cost.{GapMet}
 use Rattle.bound_specs.specs.Cells.{cell_count, AreSingle}
 use Rattle.std.proofs.lemmas.Int.{ints}
 use mir.Syntax.{w128}
-use Rattle.bound_specs.specs.Chains.{IsAtMost}
 use Rattle.bound_specs.specs.ChainValues.{IsChainValue}
 use Rattle.chain_duality.proofs.Orders.{at_most-trans}
 use Rattle.price_rounds.specs.Rounds.{pricing, IsLastBest, BeatsAlone}
