@@ -4,6 +4,7 @@ ghost use Rattle.std.specs.Prelude.{◌≡◌, ◌++◌, ℕ, ◌+◌, ◌<◌, 
 ghost use Rattle.std.specs.Int.RustNames.{unsigned_abs};
 ghost use Rattle.rail_specs.specs.Rules.{IsDrive, work_at};
 ghost use Rattle.rail_specs.specs.Cost.{cost_of, traction_cost};
+ghost use Rattle.dual_certificate.specs.Part.{IsPassed};
 ghost use Rattle.drive_report.specs.Report.{energy_lines, kilojoules_of, regained_lines};
 
 use drive_rules::Rules;
@@ -64,7 +65,8 @@ pub(crate) fn put_regained(
     regeneration: Option<u16>,
 ) -> Result<(), AllocError>
     requires { IsDrive rules.now speeds.now }
-    ensures { OnOk result (out.new.items ≡ out.old.items ++ regained_lines rules.now speeds.now regeneration) }
+    ensures text { OnOk result (out.new.items ≡ out.old.items ++ regained_lines rules.now speeds.now regeneration) }
+    ensures passed { OnOk result (IsPassed (regained_lines rules.now speeds.now regeneration)) }
 {
     if let Some(share) = regeneration {
         put_number_line(alloc, out, b"regeneration", share as i128)?;

@@ -7,7 +7,8 @@ ghost use Rattle.rail_specs.specs.Rules.{IsDrive};
 ghost use Rattle.rail_specs.specs.Times.{arrival_up};
 ghost use Rattle.drive_report.specs.Phase.{phase_at, phase_name};
 ghost use Rattle.dual_certificate.specs.Contents.{speeds_of};
-ghost use Rattle.dual_certificate.specs.Text.{IsCertificate};
+ghost use Rattle.dual_certificate.specs.Part.{IsPassed, certificate_part};
+ghost use Rattle.dual_certificate.specs.Text.{IsCertificate, text_of};
 ghost use Rattle.drive_report.specs.Report.{gap_line, ends_run, run_start};
 ghost use Rattle.drive_report.specs.Report.{phase_line, phase_lines, time_line, count_lines, advice_text, report_text};
 
@@ -83,8 +84,10 @@ fn put_phase(
     requires drive { IsDrive rules.now speeds.now }
     requires from { from ≤ i }
     requires step { i < length rules.now.steps }
-    ensures { OnOk result (out.new.items ≡ out.old.items ++ phase_line rules.now speeds.now from i) }
+    ensures text { OnOk result (out.new.items ≡ out.old.items ++ phase_line rules.now speeds.now from i) }
+    ensures passed { OnOk result (IsPassed (phase_line rules.now speeds.now from i)) }
 {
+    rules.known_drive(speeds);
     out.extend_from_slice(b"phase")?;
     put_spaced(alloc, out, rules.place(from) as i128)?;
     put_spaced(alloc, out, rules.place(i + 1) as i128)?;
@@ -110,6 +113,7 @@ fn put_run(
     requires step { i < length rules.now.steps }
     ensures text { OnOk result (out.new.items ≡ out.old.items ++
         (if ends_run rules.now speeds.now i then phase_line rules.now speeds.now from i else [])) }
+    ensures passed { OnOk result (IsPassed (if ends_run rules.now speeds.now i then phase_line rules.now speeds.now from i else [])) }
     ensures next { IfOk result (λ next. next ≡ (if ends_run rules.now speeds.now i then i + 1 else from)) }
 {
     if !ends_run(rules, speeds, i) {
@@ -127,7 +131,8 @@ fn put_phases(
     speeds: &[u16],
 ) -> Result<(), AllocError>
     requires { IsDrive rules.now speeds.now }
-    ensures { OnOk result (out.new.items ≡ out.old.items ++ phase_lines rules.now speeds.now (length rules.now.steps)) }
+    ensures text { OnOk result (out.new.items ≡ out.old.items ++ phase_lines rules.now speeds.now (length rules.now.steps)) }
+    ensures passed { OnOk result (IsPassed (phase_lines rules.now speeds.now (length rules.now.steps))) }
 {
     let mut from = 0;
     for i in 0..rules.steps() {
@@ -149,7 +154,8 @@ fn put_time(
     requires drive { IsDrive rules.now speeds.now }
     requires point { at.point ≤ length rules.now.steps }
     requires arrival { arrival ≡ arrival_up rules.now speeds.now at.point }
-    ensures { OnOk result (out.new.items ≡ out.old.items ++ time_line rules.now speeds.now at) }
+    ensures text { OnOk result (out.new.items ≡ out.old.items ++ time_line rules.now speeds.now at) }
+    ensures passed { OnOk result (IsPassed (time_line rules.now speeds.now at)) }
 {
     out.extend_from_slice(b"time")?;
     put_spaced(alloc, out, rules.place(at.point as usize) as i128)?;
@@ -167,7 +173,8 @@ fn put_times(
     speeds: &[u16],
 ) -> Result<(), AllocError>
     requires { IsDrive rules.now speeds.now }
-    ensures { OnOk result (out.new.items ≡ out.old.items ++ flat_map (time_line rules.now speeds.now) rules.now.timings) }
+    ensures text { OnOk result (out.new.items ≡ out.old.items ++ flat_map (time_line rules.now speeds.now) rules.now.timings) }
+    ensures passed { OnOk result (IsPassed (flat_map (time_line rules.now speeds.now) rules.now.timings)) }
 {
     let timings = rules.timings();
     let mut point = 0;
@@ -191,7 +198,8 @@ fn put_gap(out: &mut Vec<u8>, met: bool) -> Result<(), AllocError>
 
 /// Appends the lines of the cells and the splits, where the bound comes from cells.
 fn put_counts(alloc: Global, out: &mut Vec<u8>, counts: Option<Counts>) -> Result<(), AllocError>
-    ensures { OnOk result (out.new.items ≡ out.old.items ++ count_lines counts) }
+    ensures text { OnOk result (out.new.items ≡ out.old.items ++ count_lines counts) }
+    ensures passed { OnOk result (IsPassed (count_lines counts)) }
 {
     if let Some(counts) = counts {
         put_number_line(alloc, out, b"cells", counts.cells as i128)?;
@@ -213,7 +221,8 @@ pub fn put_advice(
     figures: &Figures,
 ) -> Result<(), AllocError>
     requires { IsDrive rules.now speeds.now }
-    ensures { OnOk result (out.new.items ≡ out.old.items ++ advice_text rules.now speeds.now figures.now) }
+    ensures text { OnOk result (out.new.items ≡ out.old.items ++ advice_text rules.now speeds.now figures.now) }
+    ensures passed { OnOk result (IsPassed (advice_text rules.now speeds.now figures.now)) }
 {
     put_head(out)?;
     put_gap(out, figures.met)?;
@@ -239,7 +248,9 @@ pub fn report(
 ) -> Result<Vec<u8>, AllocError>
     requires drive { IsDrive rules.now (speeds_of certificate.now) }
     requires certificate { IsCertificate certificate.now }
-    ensures { IfOk result (λ text. text.items ≡ report_text rules.now certificate.now met splits regeneration) }
+    ensures text { IfOk result (λ text. text.items ≡ report_text rules.now certificate.now met splits regeneration) }
+    // Whoever looks for the certificate in it finds this one.
+    ensures part { IfOk result (λ text. certificate_part text.items ≡ text_of certificate.now) }
 {
     let counts = Counts {
         cells: certificate.cell_count() as u64,
