@@ -1,4 +1,5 @@
 use Rattle.std.proofs.Common.{◌≡◌, ◌++◌, ◌<◌, ◌≤◌, length}
+use Rattle.dual_certificate.specs.Part.{IsPassed}
 use Rattle.drive_report.specs.Report.{run_start, phase_lines}
 use Rattle.drive_report.proofs.reports.put_phases.Given as goal
 
@@ -7,4 +8,5 @@ invariant-loop-i l = record {
   begun : l.from ≤ l.i;
   start : l.i < length l.rules.steps → run_start l.rules l.speeds l.i ≡ l.from;
   text : l.out.items ≡ l.initial.out.items ++ phase_lines l.rules l.speeds l.i;
+  passed : IsPassed (phase_lines l.rules l.speeds l.i);
 }
