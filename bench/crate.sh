@@ -1,4 +1,4 @@
-# Read by judge.sh, line_file.sh, potentials.sh and price_search.sh: builds a small program over the crates, in a copy of the repository. Needs rt and
+# Read by certificates.sh, judge.sh, line_file.sh, potentials.sh and price_search.sh: builds a small program over the crates, in a copy of the repository. Needs rt and
 # valgrind. What was proved before is copied too, so that only what changed is proved again.
 top=$(cd "$(dirname "$0")/.." && pwd)
 work=$(mktemp -d)

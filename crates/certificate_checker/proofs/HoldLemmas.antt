@@ -118,13 +118,13 @@ cell_is g (c ∷ d ∷ cs) (suc a) l =
     rw (add-one (suc a)) (moved ∙ ap (λ (t : Bool). record { first = (slice_index_or (d ∷ cs) a no_cert_cell).first; last = if t then (slice_index_or (d ∷ cs) (suc a) no_cert_cell).first - 1 else g })
     (sym (below_both (suc a) (length (d ∷ cs)))))
 
-last_inner : (p : CertPoint) (a : ℕ) → a + 1 < length p.cells → (cell_of p a).last ≡ first_of p (a + 1) - 1
+pub last_inner : (p : CertPoint) (a : ℕ) → a + 1 < length p.cells → (cell_of p a).last ≡ first_of p (a + 1) - 1
 last_inner p a l = grind (arith, nat_tests)
 
-last_outer : (p : CertPoint) (a : ℕ) → length p.cells ≤ a + 1 → (cell_of p a).last ≡ p.greatest
+pub last_outer : (p : CertPoint) (a : ℕ) → length p.cells ≤ a + 1 → (cell_of p a).last ≡ p.greatest
 last_outer p a l = grind (arith, nat_tests)
 
-cell_ok : (p : CertPoint) (a : ℕ) → IsPoint p → a < length p.cells → IsCell (cell_of p a)
+pub cell_ok : (p : CertPoint) (a : ℕ) → IsPoint p → a < length p.cells → IsCell (cell_of p a)
 cell_ok p a h l = elim (cases_lt (a + 1) (length p.cells)) [
   | inl inner ↦ (omega (arith, last_inner p a inner, first_rises p a h inner), omega (arith, last_inner p a inner, first_within p (a + 1) h inner, h.greatest))
   | inr out ↦ (omega (arith, last_outer p a out, first_within p a h l), omega (arith, last_outer p a out, h.greatest))

@@ -1,4 +1,5 @@
 pub mod PointLemmas
+pub mod ListLemmas
 pub mod LateLemmas
 pub mod HoldLemmas
 pub mod ShowLemmas

@@ -27,7 +27,7 @@ first_below-found f i (suc n) x h e l = elim (cases_eq i n) [
 pub ruleset firsts = (first_below-next, first_below-found)
 
 -- the first speeds of cells rise up to the greatest speed
-rising : (least greatest : ℕ) (cs : List CertCell) (a : ℕ) → RiseFrom least greatest cs → a < length cs
+pub rising : (least greatest : ℕ) (cs : List CertCell) (a : ℕ) → RiseFrom least greatest cs → a < length cs
     → (least ≤ (slice_index_or cs a no_cert_cell).first) × ((slice_index_or cs a no_cert_cell).first ≤ greatest)
 rising least greatest [] a h lt = absurd (omega arith)
 rising least greatest (c ∷ cs) zero h lt = (h.0.0, h.0.1)

@@ -13,7 +13,7 @@ use crate::links::broken_link;
 use crate::refused::{Field, Refused};
 use drive_rules::{Judged, Rules};
 use dual_certificate::{CertPoint, Certificate};
-use link_costs::{Priced, difference, prices_for, slack_charge};
+use link_costs::{difference, prices_for, slack_charge};
 use rail_base::StepCost;
 use rail_specs::Narrow;
 use speed_envelopes::{Ranges, ranges};
@@ -157,8 +157,7 @@ fn check_late<C: StepCost>(
         return Err(refused);
     }
     let prices = prices_for(alloc, rules, certificate.prices.items())?;
-    let priced = Priced::make(rules, cost, &prices);
-    if let Some(refused) = broken_link(&priced, rules.steps(), points) {
+    if let Some(refused) = broken_link(alloc, rules, cost, &prices, points)? {
         return Err(refused);
     }
     if let Some(refused) = broken_end(points, rules.steps()) {

@@ -1,10 +1,10 @@
-//! Certificates of a short run, each with one place changed.
+//! Certificates of a short run: one that holds, and others that are changed in some places.
 
 ghost use Rattle.std.specs.Prelude.{◌≡◌, ◌<◌};
 
 use crate::{Field, Refused, check};
 use drive_rules::{RouteFault, Rule, Rules, read_route};
-use dual_certificate::read;
+use dual_certificate::{CertFault, read};
 use rail_base::Traction;
 use std::alloc::Global;
 use std::marker::Brand;
@@ -17,59 +17,119 @@ use step_energy::Steps;
 const ROUTE: &[u8] =
     b"route 1\ntrain 1000 1000 1000 0 0\ntop 1000\ntraction 51000\nbrake 100000\nlatest 50\nstep 100 0 1000\nstep 100 0 1000\nend\n";
 
-/// The lines of a certificate behind its counts, and how it is answered; none where it is certified.
-const CASES: [(&str, Option<Refused>); 13] = [
+/// How a text is answered: by `read`, and by `check` where it is a certificate.
+#[derive(Clone, Copy, PartialEq, Eq, Debug)]
+enum Outcome {
+    /// The certificate holds.
+    Certified,
+    /// The text isn't one of a certificate.
+    Malformed(CertFault),
+    /// The certificate doesn't hold.
+    Refused(Refused),
+}
+
+/// A certificate behind its first line, which is `certificate 1`, and the answer. The first holds; each other one differs from it in one line,
+/// or in as many as another one that holds needs.
+const CASES: [(&str, Outcome); 25] = [
     (
-        "energy 6600000000000\nbound 200010000000\nprices 0\npoint 0 0 0=200010000000\npoint 800 1000 1=0\npoint 0 0 0=0\n",
-        None,
+        "points 3\nenergy 6600000000000\nbound 200010000000\nprices 0\npoint 0 0 0=200010000000\npoint 800 1000 1=0\npoint 0 0 0=0\nend\n",
+        Outcome::Certified,
     ),
     (
-        "energy 6600000000001\nbound 200010000000\nprices 0\npoint 0 0 0=200010000000\npoint 800 1000 1=0\npoint 0 0 0=0\n",
-        Some(Refused::Number(Field::Energy)),
+        "points 3\nenergy 6600000000000\nbound 200010000000\nprices 0\npoint 0 0 0=200010000000\npoint 800 1000 1=1\npoint 0 0 0=0\nend\n",
+        Outcome::Refused(Refused::Potential(1, 0, 0)),
     ),
     (
-        "energy 6600000000000\nbound 1267650600228229401496703205376\nprices 0\npoint 0 0 0=200010000000\npoint 800 1000 1=0\npoint 0 0 0=0\n",
-        Some(Refused::Number(Field::Bound)),
+        "points 3\nenergy 6600000000000\nbound 200010000000\nprices 0\npoint 0 0 0=200010000000\npoint 800 1000 1=0\npoint 0 0 0=0\n",
+        Outcome::Malformed(CertFault::Form(9)),
     ),
     (
-        "energy 6600000000000\nbound 200010000000\nprices 0 0\npoint 0 0 0=200010000000\npoint 800 1000 1=0\npoint 0 0 0=0\n",
-        Some(Refused::Number(Field::Prices)),
+        "points 3\nenergy 6600000000000\nbound 1\nprices 0\npoint 0 0 0=200010000000\npoint 800 1000 1=0\npoint 0 0 0=0\nend\n",
+        Outcome::Refused(Refused::Number(Field::Bound)),
     ),
     (
-        "energy 6600000000000\nbound 200010000000\nprices 0\npoint 0 0 0=200010000000\npoint 799 1000 1=0\npoint 0 0 0=0\n",
-        Some(Refused::Drive(Rule::Late, 2)),
+        "points 2\nenergy 6600000000000\nbound 200010000000\nprices 0\npoint 0 0 0=200010000000\npoint 0 0 0=0\nend\n",
+        Outcome::Refused(Refused::Number(Field::Points)),
     ),
     (
-        "energy 6600000000000\nbound 200010000000\nprices 0\npoint 0 0 0=200010000000\npoint 1001 1000 1=0\npoint 0 0 0=0\n",
-        Some(Refused::Drive(Rule::Limit, 0)),
+        "points 4\nenergy 6600000000000\nbound 200010000000\nprices 0\npoint 0 0 0=200010000000\npoint 800 1000 1=0\npoint 0 0 0=0\nend\n",
+        Outcome::Malformed(CertFault::Form(9)),
     ),
     (
-        "energy 6600000000000\nbound 200010000000\nprices 0\npoint 0 0 0=200010000000\npoint 800 999 1=0\npoint 0 0 0=0\n",
-        Some(Refused::Cells(1)),
+        "points 1\nenergy 6600000000000\nbound 200010000000\nprices 0\npoint 0 0 0=200010000000\npoint 800 1000 1=0\npoint 0 0 0=0\nend\n",
+        Outcome::Malformed(CertFault::Range(2)),
     ),
     (
-        "energy 6600000000000\nbound 200010000000\nprices 0\npoint 0 0 0=200010000000\npoint 800 1000 2=0\npoint 0 0 0=0\n",
-        Some(Refused::Cells(1)),
+        "points 3\nenergy 06600000000000\nbound 200010000000\nprices 0\npoint 0 0 0=200010000000\npoint 800 1000 1=0\npoint 0 0 0=0\nend\n",
+        Outcome::Malformed(CertFault::Form(3)),
     ),
     (
-        "energy 6600000000000\nbound 200010000000\nprices 0\npoint 0 0 0=200010000001\npoint 800 1000 1=0\npoint 0 0 0=0\n",
-        Some(Refused::Potential(0, 0, 0)),
+        "points 3\nenergy 6600000000001\nbound 200010000000\nprices 0\npoint 0 0 0=200010000000\npoint 800 1000 1=0\npoint 0 0 0=0\nend\n",
+        Outcome::Refused(Refused::Number(Field::Energy)),
     ),
     (
-        "energy 6600000000000\nbound 200010000000\nprices 0\npoint 0 0 0=200010000000\npoint 800 1000 1=-\npoint 0 0 0=0\n",
-        Some(Refused::Potential(1, 0, 0)),
+        "points 3\nenergy 6600000000000\nbound 1267650600228229401496703205377\nprices 0\npoint 0 0 0=200010000000\npoint 800 1000 1=0\npoint 0 0 0=0\nend\n",
+        Outcome::Malformed(CertFault::Range(4)),
     ),
     (
-        "energy 6600000000000\nbound 200010000000\nprices 0\npoint 0 0 0=200010000000\npoint 800 1000 1=0\npoint 0 0 0=1\n",
-        Some(Refused::Potential(2, 0, 0)),
+        "points 3\nenergy 6600000000000\nbound 1267650600228229401496703205376\nprices 0\npoint 0 0 0=200010000000\npoint 800 1000 1=0\npoint 0 0 0=0\nend\n",
+        Outcome::Refused(Refused::Number(Field::Bound)),
     ),
     (
-        "energy 6600000000000\nbound 200010000000\nprices 0\npoint 0 0 0=200010000000\npoint 800 1000 1=0 500=0\npoint 0 0 0=0\n",
-        None,
+        "points 3\nenergy 6600000000000\nbound 200010000000\nprices 1125899906842625\npoint 0 0 0=200010000000\npoint 800 1000 1=0\npoint 0 0 0=0\nend\n",
+        Outcome::Malformed(CertFault::Range(5)),
     ),
     (
-        "energy 6600000000000\nbound 200009990000\nprices 1\npoint 0 0 0=200010040000\npoint 800 1000 1=20000\npoint 0 0 0=0\n",
-        None,
+        "points 3\nenergy 6600000000000\nbound 200010000000\nprices 0 0\npoint 0 0 0=200010000000\npoint 800 1000 1=0\npoint 0 0 0=0\nend\n",
+        Outcome::Refused(Refused::Number(Field::Prices)),
+    ),
+    (
+        "points 3\nenergy 6600000000000\nbound 200010000000\nprices 0\npoint 0 0 0=200010000000\npoint 799 1000 1=0\npoint 0 0 0=0\nend\n",
+        Outcome::Refused(Refused::Drive(Rule::Late, 2)),
+    ),
+    (
+        "points 3\nenergy 6600000000000\nbound 200010000000\nprices 0\npoint 0 0 0=200010000000\npoint 1001 1000 1=0\npoint 0 0 0=0\nend\n",
+        Outcome::Refused(Refused::Drive(Rule::Limit, 0)),
+    ),
+    (
+        "points 3\nenergy 6600000000000\nbound 200010000000\nprices 0\npoint 0 0 0=200010000000\npoint 800 999 1=0\npoint 0 0 0=0\nend\n",
+        Outcome::Refused(Refused::Cells(1)),
+    ),
+    (
+        "points 3\nenergy 6600000000000\nbound 200010000000\nprices 0\npoint 0 0 0=200010000000\npoint 800 1000 2=0\npoint 0 0 0=0\nend\n",
+        Outcome::Refused(Refused::Cells(1)),
+    ),
+    (
+        "points 3\nenergy 6600000000000\nbound 200010000000\nprices 0\npoint 0 0 0=200010000000\npoint 800 1000 1=0 1=0\npoint 0 0 0=0\nend\n",
+        Outcome::Malformed(CertFault::Range(7)),
+    ),
+    (
+        "points 3\nenergy 6600000000000\nbound 200010000000\nprices 0\npoint 0 0 0=200010000001\npoint 800 1000 1=0\npoint 0 0 0=0\nend\n",
+        Outcome::Refused(Refused::Potential(0, 0, 0)),
+    ),
+    (
+        "points 3\nenergy 6600000000000\nbound 200010000000\nprices 0\npoint 0 0 0=-\npoint 800 1000 1=0\npoint 0 0 0=0\nend\n",
+        Outcome::Refused(Refused::Potential(0, 0, 0)),
+    ),
+    (
+        "points 3\nenergy 6600000000000\nbound 200010000000\nprices 0\npoint 0 0 0=200010000000\npoint 800 1000 1=-\npoint 0 0 0=0\nend\n",
+        Outcome::Refused(Refused::Potential(1, 0, 0)),
+    ),
+    (
+        "points 3\nenergy 6600000000000\nbound 200010000000\nprices 0\npoint 0 0 0=200010000000\npoint 800 1000 1=0\npoint 0 0 0=1\nend\n",
+        Outcome::Refused(Refused::Potential(2, 0, 0)),
+    ),
+    (
+        "points 3\nenergy 6600000000000\nbound 0\nprices 0\npoint 0 0 0=0\npoint 800 1000 1=0\npoint 0 0 0=0\nend\n",
+        Outcome::Certified,
+    ),
+    (
+        "points 3\nenergy 6600000000000\nbound 200010000000\nprices 0\npoint 0 0 0=200010000000\npoint 800 1000 1=0 500=0\npoint 0 0 0=0\nend\n",
+        Outcome::Certified,
+    ),
+    (
+        "points 3\nenergy 6600000000000\nbound 200009990000\nprices 1\npoint 0 0 0=200010040000\npoint 800 1000 1=20000\npoint 0 0 0=0\nend\n",
+        Outcome::Certified,
     ),
 ];
 
@@ -83,16 +143,16 @@ fn read_with<L: Ledger>(alloc: Global, blank: Blank) -> Result<Rules, RouteFault
     read_route(alloc, ROUTE, &mut steps)
 }
 
-/// The answer to a certificate with these lines.
-fn answer(rt: &impl Abort, alloc: Global, rules: &Rules, lines: &str) -> Option<Refused> {
-    let text = format!(in alloc; "certificate 1\npoints 3\n{lines}end\n").expect(
-        rt,
-        "the text fits",
-    );
-    let certificate = read(alloc, text.as_bytes())
-        .ok()
-        .expect(rt, "the text is a certificate");
-    check(alloc, rules, &Traction, &certificate).err()
+/// The answer to a certificate with these lines behind its first.
+fn answer(rt: &impl Abort, alloc: Global, rules: &Rules, lines: &str) -> Outcome {
+    let text = format!(in alloc; "certificate 1\n{lines}").expect(rt, "the text fits");
+    match read(alloc, text.as_bytes()) {
+        Err(fault) => Outcome::Malformed(fault),
+        Ok(certificate) => match check(alloc, rules, &Traction, &certificate) {
+            Err(refused) => Outcome::Refused(refused),
+            Ok(()) => Outcome::Certified,
+        },
+    }
 }
 
 #[test]
@@ -101,8 +161,8 @@ fn hostile_certificates(rt: HostRuntime) -> Result<(), Fail> {
     let rules = read_with::<Brand>(alloc, Blank::new(1))
         .ok()
         .ok_or("the route is read")?;
-    for (lines, refused) in CASES {
-        assert_eq!(rt; answer(&rt, alloc, &rules, lines), refused);
+    for (lines, expected) in CASES {
+        assert_eq!(rt; answer(&rt, alloc, &rules, lines), expected);
     }
     Ok(())
 }

@@ -1,0 +1,26 @@
+use Rattle.std.proofs.Common.{◌+◌, ◌-◌, ◌/◌, ◌<◌, ◌≤◌, ◌∙◌, ℕ, length, sym, arith}
+use Rattle.link_windows.proofs.WindowLemmas.{held_behind, unheld_before}
+use Rattle.link_windows.proofs.step_links.StepLinks.first_held.Goals as goal
+
+pub loop-low-preserved-then-is_held : goal.loop-low-preserved-then-is_held
+loop-low-preserved-then-is_held g c =
+    let m : ℕ = c.loop-low.low + (c.loop-low.high - c.loop-low.low) / 2 in
+    let less : m < c.loop-low.high = omega (arith, c.loop-low-test.true) in
+    record {
+      ordered = omega arith;
+      within = omega (arith, less, c.loop-low.invariant.within);
+      before = c.loop-low.invariant.before;
+      behind = held_behind c.args.self.now.priced.rules c.args.self.now.step c.args.a c.args.cells.now m c.requires.rising (sym c.is_held.ensures ∙ c.if-is_held.true);
+    }
+
+pub loop-low-preserved : goal.loop-low-preserved
+loop-low-preserved g c =
+    let m : ℕ = c.loop-low.low + (c.loop-low.high - c.loop-low.low) / 2 in
+    let less : m < c.loop-low.high = omega (arith, c.loop-low-test.true) in
+    record {
+      ordered = omega (arith, less);
+      within = c.loop-low.invariant.within;
+      before = unheld_before c.args.self.now.priced.rules c.args.self.now.step c.args.a c.args.cells.now m c.requires.rising (omega (arith, less, c.loop-low.invariant.within))
+          (sym c.is_held.ensures ∙ c.if-is_held.false);
+      behind = c.loop-low.invariant.behind;
+    }
