@@ -10,7 +10,7 @@ use Rattle.dual_certificate.specs.declared.certificate.CertPoint.{CertPoint}
 use Rattle.dual_certificate.specs.Text.{cell_text, cell_field, price_field, fields_text, one_line, prices_line, point_line, text_of}
 use Rattle.dual_certificate.specs.declared.certificate.Certificate.{Certificate}
 
-spaced_fields : {B : Type 0} (f : B → List ℕ) (ys : List B) → 1 ≤ length ys → flat_map (λ y. 32 ∷ f y) ys ≡ 32 ∷ fields_text (map f ys)
+pub spaced_fields : {B : Type 0} (f : B → List ℕ) (ys : List B) → 1 ≤ length ys → flat_map (λ y. 32 ∷ f y) ys ≡ 32 ∷ fields_text (map f ys)
 spaced_fields f [] some = absurd (omega arith)
 spaced_fields f (y ∷ []) some = flat_map-cons (λ z. 32 ∷ f z) y [] ∙ append-nil (32 ∷ f y)
 spaced_fields f (y ∷ z ∷ ys) some = flat_map-cons (λ w. 32 ∷ f w) y (z ∷ ys) ∙ ap (λ (x : List ℕ). (32 ∷ f y) ++ x) (spaced_fields f (z ∷ ys) (omega arith))

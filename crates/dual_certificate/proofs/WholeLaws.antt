@@ -23,7 +23,7 @@ use Rattle.dual_certificate.proofs.Cuts.{bind_ok, ok_is, exact_takes, exact_agai
 use Rattle.dual_certificate.proofs.LineLaws.{InRange, number_line_takes, number_line_again, prices_line_takes, prices_line_again}
 use Rattle.dual_certificate.proofs.PointLaws.{points_take, points_again}
 
-guard_ended : {A : Type 0} (b : Bool) (d : CertFault) (x y : A) → cond {A = Result A CertFault} b (Ok x) (Err d) ≡ Ok y → (b ≡ true) × (x ≡ y)
+pub guard_ended : {A : Type 0} (b : Bool) (d : CertFault) (x y : A) → cond {A = Result A CertFault} b (Ok x) (Err d) ≡ Ok y → (b ≡ true) × (x ≡ y)
 guard_ended true d x y e = (refl, ok_is x y e)
 guard_ended false d x y e = absurd (cc e)
 
@@ -59,16 +59,16 @@ whole_text : (text r0 r1 r2 r3 r4 : List ℕ) (c : Certificate) → text ≡ lin
 unfolding text_of
 whole_text text r0 r1 r2 r3 r4 c e0 e1 e2 e3 e4 e5 = rw (e0, e1, e2, e3, e4, e5) refl
 
-size_is : (z : ℤ) (n : ℕ) → pos 2 ≤ℤ z → n ≡ unsigned_abs z → z ≡ pos n
+pub size_is : (z : ℤ) (n : ℕ) → pos 2 ≤ℤ z → n ≡ unsigned_abs z → z ≡ pos n
 size_is z n h e = omega (arith, ints)
 
-modest_in : (z : ℤ) → InRange (negsuc (2 ^ 100 - 1)) (pos (2 ^ 100)) z → IsModest z
+pub modest_in : (z : ℤ) → InRange (negsuc (2 ^ 100 - 1)) (pos (2 ^ 100)) z → IsModest z
 modest_in z i = omega (arith, ints, i.above, i.below)
 
-in_modest : (z : ℤ) → IsModest z → (negsuc (2 ^ 100 - 1) ≤ℤ z) × (z ≤ℤ pos (2 ^ 100))
+pub in_modest : (z : ℤ) → IsModest z → (negsuc (2 ^ 100 - 1) ≤ℤ z) × (z ≤ℤ pos (2 ^ 100))
 in_modest z h = (omega (arith, ints, h), omega (arith, ints, h))
 
-count_in : (z : ℤ) (n : ℕ) → InRange (pos 2) (pos 4001) z → n ≡ unsigned_abs z → (2 ≤ n) × (n ≤ 4001)
+pub count_in : (z : ℤ) (n : ℕ) → InRange (pos 2) (pos 4001) z → n ≡ unsigned_abs z → (2 ≤ n) × (n ≤ 4001)
 count_in z n i e = (omega (arith, ints, i.above, i.below), omega (arith, ints, i.above, i.below))
 
 certificate_takes : (text : List ℕ) (c : Certificate) → certificate_of text ≡ Ok c → IsCertificate c × (text ≡ text_of c)

@@ -8,7 +8,7 @@ ghost use Rattle.dual_certificate.specs.Numbers.{digits_size, size_spelled, numb
 use rail_base::read_digits;
 
 /// The greatest size of a number of a certificate, in 0.5 microjoule.
-pub(crate) const MOST: i128 = 1 << 100;
+pub const MOST: i128 = 1 << 100;
 
 /// What stands for every greater size.
 const BEYOND: u128 = (1 << 100) + 1;
@@ -58,7 +58,7 @@ fn read_long(text: &[u8]) -> Option<u128>
 
 /// The number that a field is in its shortest spelling, `None` exactly where it is no such text. 2^100 + 1 stands for every size above
 /// 2^100.
-pub(crate) fn read_spelled(field: &[u8]) -> Option<i128>
+pub fn read_spelled(field: &[u8]) -> Option<i128>
     ensures value { result ≡ number_spelled field.now }
     ensures small { IfSome result (λ n. unsigned_abs n ≤ 2 ^ 100 + 1) }
 {

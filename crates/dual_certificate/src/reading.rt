@@ -63,9 +63,10 @@ fn price_fields(alloc: Global, mut fields: Fields<'_>) -> Result<PriceList, Cert
     }
 }
 
-/// Takes the line of the prices.
+/// Takes the line of the prices, line 5: at least one and at most 64 of them, each from 0 to 2^50. `Form` where it isn't of its form, `Range`
+/// where it is and a price is out of range or one too many. `NoMemory` is want of memory.
 #[tactic(auto, unfolding(crate::specs::Grammar::prices_at))]
-fn read_prices(alloc: Global, text: &mut Rest<'_>) -> Result<PriceList, CertFault>
+pub fn read_prices(alloc: Global, text: &mut Rest<'_>) -> Result<PriceList, CertFault>
     ensures { Gives (λ prices. (prices, text.new)) result (prices_at text.old) }
 {
     let line = text.line(5)?;

@@ -12,7 +12,7 @@ use std::marker::Model;
 
 /// What is left of a text. Contracts see its bytes.
 #[derive(Drop)]
-pub(crate) struct Rest<'a> {
+pub struct Rest<'a> {
     bytes: &'a [u8],
 }
 
@@ -41,21 +41,21 @@ pub(crate) fn cut(byte: u8, text: &[u8]) -> Option<(&[u8], &[u8])>
 
 impl<'a> Rest<'a> {
     /// The whole of a text is left.
-    pub(crate) fn new(text: &'a [u8]) -> Rest<'a>
+    pub fn new(text: &'a [u8]) -> Rest<'a>
         ensures { result ≡ text.entry.now }
     {
         Rest { bytes: text }
     }
 
     /// Whether nothing is left.
-    pub(crate) fn is_empty(&self) -> bool
+    pub fn is_empty(&self) -> bool
         ensures { IsTrue result ↔ (length self.now ≡ 0) }
     {
         self.bytes.is_empty()
     }
 
     /// Takes line n, without its end. `Form` where no line feed ends a line.
-    pub(crate) fn line(&mut self, n: u32) -> Result<&'a [u8], CertFault>
+    pub fn line(&mut self, n: u32) -> Result<&'a [u8], CertFault>
         ensures { Gives (λ line. (line.now, self.new)) result (line_at n self.old) }
     {
         let Some((line, behind)) = cut(b'\n', self.bytes) else {
@@ -67,7 +67,7 @@ impl<'a> Rest<'a> {
 
     /// Takes line n, which is this one. `Form` where it isn't.
     #[tactic(auto, unfolding(crate::specs::Grammar::exact_at))]
-    pub(crate) fn exact(&mut self, n: u32, word: &[u8]) -> Result<(), CertFault>
+    pub fn exact(&mut self, n: u32, word: &[u8]) -> Result<(), CertFault>
         ensures { Gives (λ _. self.new) result (exact_at n word.now self.old) }
     {
         let line = self.line(n)?;
@@ -80,7 +80,7 @@ impl<'a> Rest<'a> {
     /// Takes line n, which is a word and a number from `low` to `high`. `Form` where it is no word and number, `Range` where the number is
     /// out of its range.
     #[tactic(auto, unfolding(crate::specs::Grammar::number_at))]
-    pub(crate) fn number(
+    pub fn number(
         &mut self,
         n: u32,
         word: &[u8],
@@ -102,7 +102,7 @@ impl<'a> Rest<'a> {
 }
 
 /// What stands on line n behind the word that it begins with. `Form` where it begins otherwise.
-pub(crate) fn after_word<'a>(n: u32, word: &[u8], line: &'a [u8]) -> Result<&'a [u8], CertFault>
+pub fn after_word<'a>(n: u32, word: &[u8], line: &'a [u8]) -> Result<&'a [u8], CertFault>
     ensures { Gives (λ rest. rest.now) result (behind n word.now line.now) }
 {
     if !line.starts_with(word) {

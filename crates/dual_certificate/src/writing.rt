@@ -10,7 +10,7 @@ use std::alloc::{AllocError, Global};
 
 /// Appends a line of a word and a number.
 #[tactic(auto, unfolding(crate::specs::Text::one_line))]
-fn put_one(alloc: Global, out: &mut Vec<u8>, word: &[u8], n: i128) -> Result<(), AllocError>
+pub fn put_one(alloc: Global, out: &mut Vec<u8>, word: &[u8], n: i128) -> Result<(), AllocError>
     ensures { OnOk result (out.new.items ≡ out.old.items ++ one_line word.now n) }
 {
     out.extend_from_slice(word)?;
@@ -30,7 +30,7 @@ fn put_each_price(alloc: Global, out: &mut Vec<u8>, prices: &[u64]) -> Result<()
 }
 
 /// Appends the line of the prices.
-fn put_prices(alloc: Global, out: &mut Vec<u8>, prices: &[u64]) -> Result<(), AllocError>
+pub fn put_prices(alloc: Global, out: &mut Vec<u8>, prices: &[u64]) -> Result<(), AllocError>
     requires { 1 ≤ length prices.now }
     ensures { OnOk result (out.new.items ≡ out.old.items ++ prices_line prices.now) }
 {

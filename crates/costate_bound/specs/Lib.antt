@@ -1,0 +1,3 @@
+pub mod Relaxation
+pub mod Costs
+pub mod Terms
