@@ -1,0 +1,9 @@
+pub mod Answered
+pub mod Numbers
+pub mod CsvRows
+pub mod LineSays
+pub mod LinePasses
+pub mod ServiceSays
+pub mod TrainSays
+pub mod Accepted
+pub mod Whole
