@@ -111,7 +111,8 @@ fn chosen<C: StepCost>(
 {
     rules.known();
     let priced = Priced::make(rules, cost, &valued.prices);
-    choose(alloc, cells, &priced, &valued.potentials, left)
+    let motion = rules.row(0).down(1);
+    choose(alloc, cells, &priced, &valued.potentials, motion, left)
 }
 
 /// The potentials of cells found anew, where those of other cells are known that are the same behind the point `last`, and their chain

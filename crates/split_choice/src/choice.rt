@@ -19,22 +19,49 @@ pub struct Choice {
     pub last: usize,
 }
 
+/// How many times the work that a cell lets a chain gain for nothing is held against the cell's reduced cost.
+const WEIGHT_OF_GAIN: i128 = 2;
+
+/// A round splits one cell in so many of those that are there.
+const SHARE_OF_CELLS: usize = 4;
+
 /// How much it is worth to split a cell: the less the better.
 #[derive(Clone, Copy)]
 struct Rank {
-    /// The reduced cost beside the difference of the squared speeds.
+    /// The reduced cost, less what the cell lets a chain gain for nothing.
     key: i128,
     point: u32,
     cell: u32,
 }
 
-/// The cells to split next, at most so many and about a third of those that are there, from the potentials of the cells under a cost. Or
-/// want of memory.
+/// What ranks are measured by, in 0.5 microjoule.
+#[derive(Clone, Copy)]
+struct Scale {
+    /// What the least chain of all costs.
+    least: i128,
+    /// The energy of the train's motion at 1 cm/s.
+    motion: i128,
+}
+
+impl Scale {
+    /// What a cell of two or more speeds lets a chain gain for nothing: the energy of motion between its least and its greatest speed.
+    fn gain(&self, first: u16, last: u16) -> i128
+        requires { first < last }
+    {
+        let sum = last as u64 + first as u64;
+        let squares = sum.saturating_mul((last - first) as u64);
+        self.motion.saturating_mul(squares as i128)
+    }
+}
+
+/// The cells to split next, at most so many and about a quarter of those that are there, from the potentials of the cells under a cost.
+/// The train's motion at 1 cm/s has the energy `motion`, in 0.5 microjoule. Or want of memory.
 pub fn choose<K: CellCost>(
     alloc: Global,
     cells: &Cells,
     cost: &K,
     potentials: &Potentials,
+    motion: i128,
     most: usize,
 ) -> Result<Choice, AllocError>
     requires points { length cells.now ≡ K.step_count cost.now + 1 }
@@ -45,8 +72,11 @@ pub fn choose<K: CellCost>(
     ensures { IfOk result (λ choice. choice.last + 2 ≤ length cells.now) }
 {
     let forward = forward_values(alloc, cells, cost)?;
-    let ranks = rank_all(alloc, cells, potentials, forward.as_slice())?;
-    let wanted = most.min(cells.count() / 3 + 1);
+    cells.known();
+    let least = potentials.of(0, 0).unwrap_or(0);
+    let scale = Scale { least, motion };
+    let ranks = rank_all(alloc, cells, potentials, scale, forward.as_slice())?;
+    let wanted = most.min(cells.count() / SHARE_OF_CELLS + 1);
     let limit = key_of(alloc, ranks.as_slice(), wanted)?;
     let mut places = Vec::new(alloc);
     let mut last = 0;
@@ -68,6 +98,7 @@ fn rank_all(
     alloc: Global,
     cells: &Cells,
     potentials: &Potentials,
+    scale: Scale,
     forward: &[i128],
 ) -> Result<Vec<Rank>, AllocError>
     requires few { length cells.now ≤ 4001 }
@@ -76,7 +107,6 @@ fn rank_all(
 {
     cells.known();
     let mut ranks = Vec::new(alloc);
-    let least = potentials.of(0, 0).unwrap_or(0);
     let mut at = forward.len();
     for point in (0..cells.points()).rev() {
         for cell in (0..cells.of(point)).rev() {
@@ -84,7 +114,7 @@ fn rank_all(
                 at -= 1;
             }
             push_rank(
-                &mut ranks, cells, potentials, forward, at, point, cell, least,
+                &mut ranks, cells, potentials, scale, forward, at, point, cell,
             )?;
         }
     }
@@ -96,11 +126,11 @@ fn push_rank(
     ranks: &mut Vec<Rank>,
     cells: &Cells,
     potentials: &Potentials,
+    scale: Scale,
     forward: &[i128],
     at: usize,
     point: usize,
     cell: usize,
-    least: i128,
 ) -> Result<(), AllocError>
     requires few { length cells.now ≤ 4001 }
     requires same { length potentials.now ≡ length cells.now }
@@ -113,23 +143,15 @@ fn push_rank(
         return Ok(());
     };
     if speeds.first < speeds.last && *before < NO_CHAIN && cell < 60_000 {
+        let reduced = before.saturating_add(beyond).saturating_sub(scale.least);
+        let gain = scale.gain(speeds.first, speeds.last);
         ranks.push(Rank {
-            key: key(*before, beyond, least, speeds.first, speeds.last),
+            key: reduced.saturating_sub(gain.saturating_mul(WEIGHT_OF_GAIN)),
             point: point as u32,
             cell: cell as u32,
         })?;
     }
     Ok(())
-}
-
-/// The reduced cost of a cell beside the difference of its squared speeds.
-fn key(before: i128, beyond: i128, least: i128, first: u16, last: u16) -> i128
-    requires { first < last }
-{
-    let reduced = before.saturating_add(beyond).saturating_sub(least).max(0);
-    let sum = last as u64 + first as u64;
-    let gain = sum.saturating_mul((last - first) as u64);
-    reduced.checked_div(gain as i128).unwrap_or(NO_CHAIN)
 }
 
 /// The key of the cell of this number, from 1, in the order of keys; the greatest where there are fewer.

@@ -36,7 +36,8 @@ fn chosen(alloc: Global, rules: &Rules, cells: &Cells) -> Result<Option<Choice>,
     let prices = prices_for(alloc, rules, &[1000])?;
     let cost = Priced::make(rules, &Traction, &prices);
     let table = potentials(alloc, cells, &cost)?;
-    Ok(Some(choose(alloc, cells, &cost, &table, 5)?))
+    let motion = rules.row(0).down(1);
+    Ok(Some(choose(alloc, cells, &cost, &table, motion, 5)?))
 }
 
 #[test]
