@@ -1,9 +1,15 @@
 -- The answers to the rules of a run.
-use Rattle.std.proofs.Common.{ℕ, ◌≡◌, ◌+◌, ◌-◌, ◌∙◌, List, subst, ap, length, refl, arith, inl, inr}
-use Rattle.std.specs.Prelude.{ℤ, if◌then◌else◌, Result, Ok, Err, IfOk}
+use Rattle.std.proofs.Common.{ℕ, ◌≡◌, ◌≤◌, ◌+◌, ◌-◌, ◌∙◌, List, Option, subst, sym, ap, length, refl, arith, inl, inr}
+use Rattle.std.specs.Prelude.{ℤ, if◌then◌else◌, Result, Ok, Err, IfOk, All}
 use Rattle.rail_specs.specs.Rules.{Rules}
-use Rattle.rail_specs.specs.Cost.{traction_cost}
-use Rattle.bound_specs.specs.Cells.{cell_count}
+use Rattle.rule_parts.specs.Shaped.{IsShaped}
+use Rattle.bound_specs.specs.Prices.{ArePrices}
+use Rattle.dual_certificate.specs.declared.certificate.Certificate.{Certificate}
+use Rattle.dual_certificate.specs.Grammar.{certificate_in}
+use Rattle.dual_certificate.specs.Part.{certificate_part}
+use Rattle.dual_certificate.specs.Text.{IsPoint, text_of}
+use Rattle.dual_certificate.proofs.WholeLaws.{is_again}
+use Rattle.planner.specs.Certificates.{IsCertificateOf}
 use Rattle.phase_composer.specs.Best.{IsLate}
 use Rattle.planner.specs.Plans.{IsSomePlan}
 use Rattle.planner.specs.declared.answer.Plan.{Plan as PlanData}
@@ -12,18 +18,35 @@ use Rattle.line_file.specs.declared.line.Line.{Line}
 use Rattle.line_file.specs.declared.service.Service.{Service}
 use Rattle.train_file.specs.declared.train.Train.{Train}
 use Rattle.advice_run.specs.Plan.{IsPlanAnswer}
-use Rattle.advice_run.specs.Outcome.{IsJoinedAnswer, IsRulesAnswer}
+use Rattle.advice_run.specs.Outcome.{IsJoinedAnswer, IsJoinedCheck, IsRulesAnswer}
+use Rattle.advice_run.proofs.CertificateLemmas.{holds, in_range}
 
--- a plan
-pub drive_answer : (cost : ℤ → ℤ) (r : Rules) (splits tolerance status : ℕ) (text : List ℕ) (p : PlanData) → IsSomePlan cost r splits tolerance p
-    → status ≡ (if p.met then 0 else 1) → text ≡ report_text r p.drive p.cost p.bound p.met (cell_count p.cells) p.splits
-    → IsPlanAnswer cost r splits tolerance status text
-drive_answer cost r splits tolerance status text p is ends says = inr (inr (p, record { plan = is; ends = ends; says = says }))
+-- a plan, with its certificate
+pub drive_answer : (cost : ℤ → ℤ) (r : Rules) (splits tolerance : ℕ) (regeneration : Option ℕ) (status : ℕ) (text : List ℕ) (p : PlanData) (c : Certificate) → splits ≤ 50000 → IsShaped r → ArePrices p.prices
+    → IsSomePlan cost r splits tolerance p → IsCertificateOf p c → All IsPoint c.points → status ≡ (if p.met then 0 else 1) → text ≡ report_text r c p.met p.splits regeneration
+    → certificate_part text ≡ text_of c → IsPlanAnswer cost r splits tolerance regeneration status text
+drive_answer cost r splits tolerance regeneration status text p c few shaped prices is said fit ends says part =
+    let sound = in_range cost r splits tolerance p c few shaped prices is said fit in
+    inr (inr (
+      p,
+      (
+        c,
+        record {
+          plan = is;
+          certificate = said;
+          in_range = sound;
+          holds = holds cost r splits tolerance p c shaped prices is said;
+          ends = ends;
+          says = says;
+          reads = ap certificate_in part ∙ is_again c sound;
+        },
+      ),
+    ))
 
 -- no drive is on time
-pub late_answer : (cost : ℤ → ℤ) (r : Rules) (splits tolerance : ℕ) (text : List ℕ) (timing arrival : ℕ) → IsLate r timing arrival
-    → text ≡ late_text r timing arrival → IsPlanAnswer cost r splits tolerance 5 text
-late_answer cost r splits tolerance text timing arrival late says =
+pub late_answer : (cost : ℤ → ℤ) (r : Rules) (splits tolerance : ℕ) (regeneration : Option ℕ) (text : List ℕ) (timing arrival : ℕ) → IsLate r timing arrival
+    → text ≡ late_text r timing arrival → IsPlanAnswer cost r splits tolerance regeneration 5 text
+late_answer cost r splits tolerance regeneration text timing arrival late says =
     let (speeds, greatest, first, at) = late.greatest in
     inr (inl (
       speeds,
@@ -47,10 +70,10 @@ ok_map (Err e) P Q f h = tt
 -- ---- answers over files
 
 -- the answer to rules, where the files counted their steps
-pub rules_answered : (splits tolerance old new : ℕ) (r : Rules) (status : ℕ) (text : List ℕ)
-    → new ≡ old + (length r.steps + 0) → IsPlanAnswer traction_cost r splits tolerance status text
-    → IsRulesAnswer splits tolerance (new - old) r status text
-rules_answered splits tolerance old new r status text e h = (omega arith, h)
+pub rules_answered : (cost : ℤ → ℤ) (splits tolerance : ℕ) (regeneration : Option ℕ) (old new : ℕ) (r : Rules) (status : ℕ) (text : List ℕ)
+    → new ≡ old + (length r.steps + 0) → IsPlanAnswer cost r splits tolerance regeneration status text
+    → IsRulesAnswer cost splits tolerance regeneration (new - old) r status text
+rules_answered cost splits tolerance regeneration old new r status text e h = (omega arith, h)
 
 -- the answer to joined rules, where the files counted no step
 pub joined_answered : (line : Line) (train : Train) (service : Service) (step splits tolerance old mid new status : ℕ) (text : List ℕ)
@@ -60,3 +83,12 @@ pub joined_answered : (line : Line) (train : Train) (service : Service) (step sp
 joined_answered line train service step splits tolerance old mid new status text e h =
     let same : mid ≡ old = omega arith in
     subst (λ (m : ℕ). IsJoinedAnswer line train service step splits tolerance (new - m) status text) same h
+
+-- the check against joined rules, where the files counted no step
+pub joined_checked : (line : Line) (train : Train) (service : Service) (report : List ℕ) (step old mid new status : ℕ) (text : List ℕ)
+    → mid ≡ old + (0 + (0 + (0 + (0 + 0))))
+    → IsJoinedCheck line train service report step (new - mid) status text
+    → IsJoinedCheck line train service report step (new - old) status text
+joined_checked line train service report step old mid new status text e h =
+    let same : mid ≡ old = omega arith in
+    subst (λ (m : ℕ). IsJoinedCheck line train service report step (new - m) status text) same h

@@ -60,9 +60,9 @@ pub record IsCertified (cost : ℤ → ℤ) (r : Rules) (c : Certificate) (statu
 pub record IsNotHeld (cost : ℤ → ℤ) (r : Rules) (c : Certificate) (e : Refused) (status : ℕ) (text : List ℕ) : Type 0 where
   pub sound : e ≢ NoMemoryToCheck
   pub fails : Holds cost r c → ⊥
-  pub early : IfSome (early_refusal cost r c) (λ first. Refuses {Certificate} (Err e) (Some first))
+  pub early : IfSome (early_refusal cost r c) (λ first. Refuses {A = ⊤} (Err e) (Some first))
   pub late : early_refusal cost r c ≡ None → (least greatest : List ℕ) → AreRanges r no_narrowing least greatest
-      → Refuses {Certificate} (Err e) (late_refusal cost r c least greatest)
+      → Refuses {A = ⊤} (Err e) (late_refusal cost r c least greatest)
   pub says : IsRefusedIn (refused_words e) status text
 
 -- the answer to a certificate

@@ -141,7 +141,15 @@ pub fn answer_check<S: Shelf, L: Ledger>(
     match (line, (train, (service, (report, ())))).read_all(alloc, shelf, steps)? {
         Stage::Read(said) => {
             let (line, train, service) = (&said.0, &said.1.0, &said.1.1.0);
-            joined_check(alloc, asked, line, train, service, said.1.1.1.0.bytes(), steps)
+            joined_check(
+                alloc,
+                asked,
+                line,
+                train,
+                service,
+                said.1.1.1.0.bytes(),
+                steps,
+            )
         }
         Stage::Ends(answer) => Ok(answer),
     }

@@ -1,4 +1,4 @@
-use Rattle.std.proofs.Common.{inr}
+use Rattle.std.proofs.Common.{None, inr}
 use Rattle.rail_specs.specs.Cost.{traction_cost}
 use Rattle.advice_run.specs.Plan.{IsPlanAnswer}
 use Rattle.command_files.specs.declared.answer.Answer.{Answer}
@@ -10,12 +10,12 @@ returns-in-Read-clause-may g c =
     let says = rw c.in-Read.is at c.in_ok-said.ensures.stage in
     let counted = rw c.in-Read.is at c.in_ok-said.ensures.counted in
     ok_map c.rules_answer.result
-    (λ (a : Answer). IsPlanAnswer traction_cost c.in-Read.said.0 c.args.asked.now.splits c.args.asked.now.tolerance a.status a.text.items) _
+    (λ (a : Answer). IsPlanAnswer traction_cost c.in-Read.said.0 c.args.asked.now.splits c.args.asked.now.tolerance None a.status a.text.items) _
     (λ a h. inr (
       c.in-Read.said,
       (
         says,
-        rules_answered c.args.asked.now.splits c.args.asked.now.tolerance c.args.steps.now c.read_all.new.steps
+        rules_answered traction_cost c.args.asked.now.splits c.args.asked.now.tolerance None c.args.steps.now c.read_all.new.steps
             c.in-Read.said.0 a.status a.text.items counted h,
       ),
     ))

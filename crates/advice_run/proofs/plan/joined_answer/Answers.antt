@@ -1,0 +1,17 @@
+use Rattle.std.proofs.Common.{arith, inr}
+use Rattle.command_files.specs.declared.answer.Answer.{Answer}
+use Rattle.rail_specs.specs.Cost.{regained_cost}
+use Rattle.advice_run.specs.Outcome.{regeneration_of}
+use Rattle.advice_run.specs.Plan.{IsPlanAnswer}
+use Rattle.advice_run.proofs.AnswerLemmas.{ok_map}
+use Rattle.advice_run.proofs.plan.joined_answer.Goals as goal
+
+pub returns-in-Read : goal.returns-in-Read
+returns-in-Read g c =
+    let train = c.args.train.now in
+    let w = c.args.asked.now in
+    let says = rw c.in-Read.is at c.in_ok-rules.ensures.stage in
+    let counted = rw c.in-Read.is at c.in_ok-rules.ensures.counted in
+    ok_map c.rules_answer.result
+    (λ (a : Answer). IsPlanAnswer (regained_cost train.regeneration) c.in-Read.rules w.splits w.tolerance (regeneration_of train) a.status a.text.items) _
+    (λ a h. inr (c.in-Read.rules, (says, (omega (arith, counted), h)))) (rw c.regeneration_of.ensures at c.rules_answer.ensures)
