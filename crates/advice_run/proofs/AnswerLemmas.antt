@@ -1,5 +1,5 @@
 -- The answers to the rules of a run.
-use Rattle.std.proofs.Common.{ℕ, ◌≡◌, ◌≤◌, ◌+◌, ◌-◌, ◌∙◌, List, Option, subst, sym, ap, length, refl, arith, inl, inr}
+use Rattle.std.proofs.Common.{ℕ, ◌≡◌, ◌≤◌, ◌+◌, ◌-◌, ◌∙◌, List, Option, subst, ap, length, refl, arith, inl, inr}
 use Rattle.std.specs.Prelude.{ℤ, if◌then◌else◌, Result, Ok, Err, IfOk, All}
 use Rattle.rail_specs.specs.Rules.{Rules}
 use Rattle.rule_parts.specs.Shaped.{IsShaped}

@@ -1,5 +1,5 @@
 -- The answer to the check of a report.
-use Rattle.std.specs.Prelude.{ℕ, ◌≡◌, ◌≢◌, ℤ, List, [], ⊤, None, Some, IfSome, Result, Ok, Err, codes, ◌⊎◌}
+use Rattle.std.specs.Prelude.{ℕ, ◌≡◌, ◌≢◌, ℤ, List, [], ⊤, None, Some, IfSome, Ok, Err, codes, ◌⊎◌}
 use Rattle.rail_specs.specs.Rules.{Rules}
 use Rattle.rail_specs.specs.Ranges.{AreRanges, no_narrowing}
 use Rattle.edge_io.specs.Faults.{Told}
