@@ -22,7 +22,8 @@ use Rattle.dual_certificate.specs.declared.certificate.Certificate.{Certificate}
 use Rattle.dual_certificate.specs.Contents.{cells_up_to, point_cells}
 use Rattle.dual_certificate.specs.Text.{IsCertificate, IsPoint, cells_in}
 use Rattle.certificate_checker.specs.Holds.{Holds}
-use Rattle.certificate_checker.specs.Contents.{cell_lists, pricing_in, prices_in, speeds_of, value_lists}
+use Rattle.dual_certificate.specs.Contents.{cell_lists, speeds_of, value_lists}
+use Rattle.certificate_checker.specs.Contents.{pricing_in, prices_in}
 use Rattle.potential_table.proofs.PriceLines.{value_unique}
 use Rattle.price_rounds.specs.Rounds.{pricing}
 use Rattle.planner.specs.Certificates.{IsCertificateOf, IsWhole}

@@ -29,7 +29,8 @@ use Rattle.dual_certificate.specs.Text.{IsPoint, IsCertificate}
 use Rattle.certificate_checker.specs.declared.refused.Field.TheVariants as field
 use Rattle.certificate_checker.specs.declared.refused.Refused.{Refused}
 use Rattle.certificate_checker.specs.declared.refused.Refused.TheVariants.{Number, Drive, Cells, Potential, NoMemory}
-use Rattle.certificate_checker.specs.Contents.{no_cert_cell, no_point, point_at, first_of, cell_of, value_of, cells_up_to, point_cells, point_values, cell_lists, value_lists, speeds_of, prices_in, pricing_in}
+use Rattle.dual_certificate.specs.Contents.{no_cert_cell, no_point, point_at, first_of, cell_of, value_of, cells_up_to, point_cells, point_values, cell_lists, value_lists, speeds_of}
+use Rattle.certificate_checker.specs.Contents.{prices_in, pricing_in}
 use Rattle.certificate_checker.specs.Holds.{Holds}
 use Rattle.certificate_checker.specs.Refusals.{unless_so, is_at_most, is_number, counts_refusal, drive_refusal, early_refusal, cells_refusal, link_refusal, links_from, links_over, end_refusal, bound_refusal, late_refusal, Refuses}
 use Rattle.certificate_checker.proofs.PointLemmas.{first_within, first_rises}

@@ -12,7 +12,7 @@ use Rattle.dual_certificate.specs.declared.certificate.CertCell.{CertCell}
 use Rattle.dual_certificate.specs.declared.certificate.CertPoint.{CertPoint}
 use Rattle.dual_certificate.specs.Text.{RiseFrom, IsPoint}
 use Rattle.link_windows.specs.Windows.{AreRising, IsWindow}
-use Rattle.certificate_checker.specs.Contents.{no_cert_cell, first_of, cell_of, value_of}
+use Rattle.dual_certificate.specs.Contents.{no_cert_cell, first_of, cell_of, value_of}
 use Rattle.certificate_checker.specs.Lists.{AreCellsOf}
 use Rattle.certificate_checker.specs.Refusals.{is_at_most, unless_so, link_refusal}
 use Rattle.certificate_checker.specs.declared.refused.Refused.TheVariants.{Potential}

@@ -16,7 +16,8 @@ use Rattle.link_costs.specs.Soundness.{IsPricing}
 use Rattle.link_costs.proofs.BoundLemmas.{feasible_bounds}
 use Rattle.dual_certificate.specs.declared.certificate.Certificate.{Certificate}
 use Rattle.dual_certificate.specs.Text.{IsPoint, IsCertificate}
-use Rattle.certificate_checker.specs.Contents.{no_point, point_at, first_of, cell_lists, value_lists, point_cells, prices_in, pricing_in}
+use Rattle.dual_certificate.specs.Contents.{no_point, point_at, first_of, cell_lists, value_lists, point_cells}
+use Rattle.certificate_checker.specs.Contents.{prices_in, pricing_in}
 use Rattle.certificate_checker.specs.declared.refused.Refused.{Refused}
 use Rattle.certificate_checker.specs.Holds.{Holds, Shows}
 use Rattle.certificate_checker.proofs.HoldLemmas.{cells_at, run_of, one_cell, cell_count_at}

@@ -9,7 +9,8 @@ use Rattle.rail_specs.specs.Rules.{Rules, IsDrive}
 use Rattle.rail_specs.specs.Times.{IsOnTimeUp}
 use Rattle.rail_specs.specs.Cost.{cost_of, IsBound}
 use Rattle.dual_certificate.specs.declared.certificate.Certificate.{Certificate}
-use Rattle.certificate_checker.specs.Contents.{speeds_of, cell_lists, value_lists, prices_in, pricing_in}
+use Rattle.dual_certificate.specs.Contents.{speeds_of, cell_lists, value_lists}
+use Rattle.certificate_checker.specs.Contents.{prices_in, pricing_in}
 
 -- a certificate holds for rules and a cost of work: its drive is one on time and costs its energy; its cells run from the least to the
 -- greatest speed that a drive has at each point; its potentials are feasible values of the cells at its prices; and its bound is the

@@ -3,7 +3,7 @@ use Rattle.std.specs.Prelude.{ℕ, ◌<◌, ◌≡◌, List, length, slice_index
 use Rattle.bound_specs.specs.declared.Cell.{Cell}
 use Rattle.bound_specs.specs.Cells.{no_cell}
 use Rattle.dual_certificate.specs.declared.certificate.CertPoint.{CertPoint}
-use Rattle.certificate_checker.specs.Contents.{cell_of}
+use Rattle.dual_certificate.specs.Contents.{cell_of}
 
 -- these are the cells of a point, in their order
 pub record AreCellsOf (p : CertPoint) (cells : List Cell) : Type 0 where

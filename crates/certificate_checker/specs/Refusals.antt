@@ -16,7 +16,8 @@ use Rattle.dual_certificate.specs.declared.certificate.Certificate.{Certificate}
 use Rattle.certificate_checker.specs.declared.refused.Field.TheVariants as field
 use Rattle.certificate_checker.specs.declared.refused.Refused.{Refused}
 use Rattle.certificate_checker.specs.declared.refused.Refused.TheVariants.{Number, Drive, Cells, Potential, NoMemory}
-use Rattle.certificate_checker.specs.Contents.{speeds_of, first_of, cell_of, value_of, point_at, prices_in, pricing_in}
+use Rattle.dual_certificate.specs.Contents.{speeds_of, first_of, cell_of, value_of, point_at}
+use Rattle.certificate_checker.specs.Contents.{prices_in, pricing_in}
 
 -- a test, and what is refused where it fails
 abbrev pub unless_so : Bool → Refused → Option Refused

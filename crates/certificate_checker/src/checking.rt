@@ -1,12 +1,12 @@
 //! The conditions of a certificate, in the order in which they are tried.
-ghost use Rattle.std.specs.Prelude.{◌≡◌, ◌+◌, ◌==◌, ◌&&◌, ◌^◌, ◌≤◌, ℕ, List, None, Some, length, map, All, IfOk, IfErr, IfSome};
+ghost use Rattle.std.specs.Prelude.{◌≡◌, ◌+◌, ◌==◌, ◌&&◌, ◌^◌, ◌≤◌, ℕ, List, None, Some, length, All, IfOk, IfErr, IfSome};
 ghost use Rattle.std.specs.Int.RustNames.{unsigned_abs};
 ghost use Rattle.rail_base.specs.First.{first_below};
 ghost use Rattle.rail_specs.specs.Ranges.{AreRanges, no_narrowing};
 ghost use Rattle.dual_certificate.specs.Text.{IsCertificate, IsPoint};
 ghost use Rattle.certificate_checker.specs.declared.refused.Refused.TheVariants.{NoMemory};
 ghost use Rattle.certificate_checker.specs.Holds.{Holds, Shows};
-ghost use Rattle.certificate_checker.specs.Contents.{first_of, speeds_of, value_of};
+ghost use Rattle.dual_certificate.specs.Contents.{first_of, speeds_of, value_of};
 ghost use Rattle.certificate_checker.specs.Refusals.{bound_refusal, cells_refusal, counts_refusal, drive_refusal, early_refusal, end_refusal, late_refusal, Refuses};
 
 use crate::links::broken_link;
@@ -30,17 +30,6 @@ fn broken_count(rules: &Rules, certificate: &Certificate) -> Option<Refused>
         return Some(Refused::Number(Field::Prices));
     }
     None
-}
-
-/// The drive's speeds, one for each point.
-fn drive_of(alloc: Global, points: &[CertPoint]) -> Result<Vec<u16>, AllocError>
-    ensures { IfOk result (λ speeds. speeds.items ≡ map (λ p. p.speed) points.now) }
-{
-    let mut speeds = Vec::new(alloc);
-    for point in points {
-        speeds.push(point.speed)?;
-    }
-    Ok(speeds)
 }
 
 /// The drive's speeds and its energy.
@@ -74,7 +63,7 @@ fn broken_drive<C: StepCost>(
 ) -> Result<Option<Refused>, AllocError>
     ensures { IfOk result (λ broken. broken ≡ drive_refusal (C.cost cost.now) rules.now certificate.now) }
 {
-    let speeds = drive_of(alloc, certificate.points.items())?;
+    let speeds = certificate.speeds(alloc)?;
     Ok(broken_speeds(rules, cost, certificate, speeds.as_slice()))
 }
 

@@ -7,7 +7,7 @@ ghost use Rattle.rail_base.specs.First.{first_below};
 ghost use Rattle.link_costs.specs.Soundness.{pricing_of};
 ghost use Rattle.dual_certificate.specs.Text.{IsModest, IsPoint};
 ghost use Rattle.bound_specs.specs.Prices.{AreFor};
-ghost use Rattle.certificate_checker.specs.Contents.{cell_of};
+ghost use Rattle.dual_certificate.specs.Contents.{cell_of};
 ghost use Rattle.certificate_checker.specs.Lists.{AreCellsOf};
 ghost use Rattle.certificate_checker.specs.Refusals.{is_at_most, link_refusal, links_from, links_over};
 

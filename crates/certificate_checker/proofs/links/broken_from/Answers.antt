@@ -8,7 +8,7 @@ use Rattle.dual_certificate.specs.Text.{IsModest}
 use Rattle.link_costs.specs.Soundness.{pricing_of}
 use Rattle.link_costs.proofs.LinkLemmas.{wide_is}
 use Rattle.link_windows.specs.Windows.{IsWindow}
-use Rattle.certificate_checker.specs.Contents.{no_cert_cell}
+use Rattle.dual_certificate.specs.Contents.{no_cert_cell}
 use Rattle.certificate_checker.proofs.PointLemmas.{modest_at, link_found}
 use Rattle.certificate_checker.proofs.ListLemmas.{cells_rise, link_kept, none_before, none_of_all}
 use Rattle.certificate_checker.proofs.links.broken_from.Goals as goal

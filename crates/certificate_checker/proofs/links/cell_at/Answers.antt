@@ -1,7 +1,7 @@
 use Rattle.std.proofs.Common.{◌<◌, ◌+◌, arith, length, ap, sym, subst}
 use Rattle.std.specs.Prelude.{List, slice_index_or}
 use Rattle.dual_certificate.specs.declared.certificate.CertCell.{CertCell}
-use Rattle.certificate_checker.specs.Contents.{first_of, no_cert_cell}
+use Rattle.dual_certificate.specs.Contents.{first_of, no_cert_cell}
 use Rattle.certificate_checker.proofs.PointLemmas.{first_rises}
 use Rattle.certificate_checker.proofs.links.cell_at.Goals as goal
 

@@ -1,7 +1,7 @@
 use Rattle.std.proofs.Common.{ℕ, ◌≡◌, ◌<◌, length}
 use Rattle.std.specs.Prelude.{slice_index_or}
 use Rattle.bound_specs.specs.Cells.{no_cell}
-use Rattle.certificate_checker.specs.Contents.{cell_of}
+use Rattle.dual_certificate.specs.Contents.{cell_of}
 use Rattle.certificate_checker.proofs.links.cells_of.Given as goal
 
 abbrev pub invariant-loop-c : goal.invariant-loop-c
