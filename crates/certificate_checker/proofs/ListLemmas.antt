@@ -1,9 +1,9 @@
 -- The cells of a point as a list, and the links from a cell to those outside its window.
-use Rattle.std.proofs.Common.{◌≡◌, ◌<◌, ◌≤◌, ◌+◌, ◌-◌, ◌∙◌, ℕ, ℤ, zero, suc, Bool, true, false, List, [], ◌∷◌, Option, Some, None, length, refl, sym, ap, subst, arith, inl, inr}
-use Rattle.std.specs.Prelude.{slice_index_or, IsTrue, if◌then◌else◌}
+use Rattle.std.proofs.Common.{◌≡◌, ◌<◌, ◌≤◌, ◌+◌, ◌∙◌, ℕ, ℤ, zero, suc, Bool, true, false, List, [], ◌∷◌, Option, Some, None, length, refl, sym, ap, subst, arith, inl, inr}
+use Rattle.std.specs.Prelude.{slice_index_or, IsTrue}
 use Rattle.std.proofs.lemmas.Bool.{cases_eq, cases_lt}
 use Rattle.bound_specs.specs.declared.Cell.{Cell}
-use Rattle.bound_specs.specs.Cells.{no_cell, IsCell}
+use Rattle.bound_specs.specs.Cells.{IsCell}
 use Rattle.bound_specs.specs.Chains.{plus}
 use Rattle.bound_specs.specs.Links.{Pricing, can_link, low_cost}
 use Rattle.rail_base.specs.First.{first_below}
@@ -17,7 +17,7 @@ use Rattle.certificate_checker.specs.Lists.{AreCellsOf}
 use Rattle.certificate_checker.specs.Refusals.{is_at_most, unless_so, link_refusal}
 use Rattle.certificate_checker.specs.declared.refused.Refused.TheVariants.{Potential}
 use Rattle.certificate_checker.proofs.PointLemmas.{rising, first_below-next}
-use Rattle.certificate_checker.proofs.HoldLemmas.{last_inner, last_outer, cell_ok}
+use Rattle.certificate_checker.proofs.HoldLemmas.{last_inner, cell_ok}
 
 -- ---- the cells rise
 

@@ -1,4 +1,4 @@
-use Rattle.std.proofs.Common.{◌∙◌, ◌≡◌, ◌<◌, ap, arith, length, sym, subst, Some, ℕ, to_z, of_z}
+use Rattle.std.proofs.Common.{◌∙◌, ◌<◌, ap, arith, length, sym, subst, Some, ℕ, to_z, of_z}
 use Rattle.std.specs.Prelude.{List, IfSome, slice_index_or}
 use Rattle.std.specs.Int.{w128}
 use Rattle.bound_specs.specs.Cells.{no_cell}
