@@ -122,7 +122,7 @@ cell_is g (c ∷ d ∷ cs) (suc a) l =
 pub last_inner : (p : CertPoint) (a : ℕ) → a + 1 < length p.cells → (cell_of p a).last ≡ first_of p (a + 1) - 1
 last_inner p a l = grind (arith, nat_tests)
 
-pub last_outer : (p : CertPoint) (a : ℕ) → length p.cells ≤ a + 1 → (cell_of p a).last ≡ p.greatest
+last_outer : (p : CertPoint) (a : ℕ) → length p.cells ≤ a + 1 → (cell_of p a).last ≡ p.greatest
 last_outer p a l = grind (arith, nat_tests)
 
 pub cell_ok : (p : CertPoint) (a : ℕ) → IsPoint p → a < length p.cells → IsCell (cell_of p a)

@@ -1,17 +1,17 @@
 -- Which links are possible where cells rise.
 use Rattle.std.proofs.Common.{ℕ, ◌+◌, ◌*◌, ◌<◌, ◌≤◌, ◌≡◌, Bool, true, false, List, length, refl, sym, arith, inl, inr, ◌∙◌}
-use Rattle.std.specs.Prelude.{ℤ, pos, neg_ℤ, ◌&&◌, ◌≤ℤ◌, ◌↔◌, nat_le, min, slice_index, slice_index_or, IsTrue, IsFalse}
+use Rattle.std.specs.Prelude.{pos, neg_ℤ, ◌&&◌, nat_le, slice_index, slice_index_or, IsTrue, IsFalse}
 use Rattle.std.specs.Int.RustNames.{int_le}
 use Rattle.std.proofs.lemmas.Int.{ints}
 use Rattle.std.proofs.lemmas.Bool.{and_parts, cases_lt}
 use Rattle.std.proofs.lemmas.Bool.Decides.{nat_tests}
 use Rattle.std.proofs.Math.Nat.{mul-le-mul_left}
 use Rattle.bound_specs.specs.declared.Cell.{Cell}
-use Rattle.bound_specs.specs.Cells.{no_cell, IsCell}
+use Rattle.bound_specs.specs.Cells.{no_cell}
 use Rattle.bound_specs.specs.Links.{can_link}
 use Rattle.rail_specs.specs.Rules.{Rules, step_at, traction_work, brake_work}
 use Rattle.rail_specs.specs.Step.{work}
-use Rattle.rail_specs.proofs.WorkLemmas.{work_rises, work_falls}
+use Rattle.rail_specs.proofs.WorkLemmas.{work_rises}
 use Rattle.rule_parts.specs.Shaped.{IsShaped}
 use Rattle.link_windows.specs.Windows.{AreRising, IsWindow, can_begin, is_reached, is_held}
 

@@ -1,4 +1,4 @@
-use Rattle.std.proofs.Common.{◌+◌, ◌-◌, ◌/◌, ◌<◌, ◌≤◌, ◌∙◌, ℕ, length, sym, arith}
+use Rattle.std.proofs.Common.{◌+◌, ◌-◌, ◌/◌, ◌<◌, ◌∙◌, ℕ, sym, arith}
 use Rattle.link_windows.proofs.WindowLemmas.{reached_before, unreached_behind}
 use Rattle.link_windows.proofs.step_links.StepLinks.first_beyond.Goals as goal
 

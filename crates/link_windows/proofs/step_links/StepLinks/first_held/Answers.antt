@@ -1,4 +1,4 @@
-use Rattle.std.proofs.Common.{◌+◌, ◌-◌, ◌/◌, ◌<◌, ◌≤◌, ◌∙◌, ℕ, length, sym, arith}
+use Rattle.std.proofs.Common.{◌+◌, ◌-◌, ◌/◌, ◌<◌, ◌∙◌, ℕ, sym, arith}
 use Rattle.link_windows.proofs.WindowLemmas.{held_behind, unheld_before}
 use Rattle.link_windows.proofs.step_links.StepLinks.first_held.Goals as goal
 
