@@ -1,3 +1,4 @@
 pub mod Plan
 pub mod Words
+pub mod Sample
 pub mod Outcome

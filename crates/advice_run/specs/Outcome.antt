@@ -13,13 +13,17 @@ use Rattle.command_files.specs.Files.{MayAnswer}
 use Rattle.plan_files.specs.Kinds.{PlanEnds, PlanSays, RouteEnds, RouteSays}
 use Rattle.plan_files.specs.FreshRules.{FreshRules, IsRulesRefusal}
 use Rattle.advice_run.specs.Plan.{IsPlanAnswer}
-use Rattle.advice_run.specs.Words.{Command, Usage, Route, Plan}
+use Rattle.advice_run.specs.Sample.{IsSampleAnswer}
+use Rattle.advice_run.specs.Words.{Command, Usage, Route, Plan, Sample}
 
 -- the text about usage: a line for each command
 abbrev pub usage_text : List ℕ
 usage_text =
     text_line (codes "usage: advice route FILE [--splits N] [--tolerance N]")
     ++ text_line (codes "       advice plan LINE TRAIN SERVICE [--step N] [--splits N] [--tolerance N]")
+    ++ text_line (codes "       advice check LINE TRAIN SERVICE REPORT [--step N]")
+    ++ text_line (codes "       advice session LINE TRAIN SERVICE EVENTS [--step N] [--splits N] [--tolerance N]")
+    ++ text_line (codes "       advice sample N [--splits N] [--tolerance N]")
 
 -- ---- answers to what files say
 
@@ -44,6 +48,7 @@ MayWrite (Route file splits tolerance) told before now counted status text =
 MayWrite (Plan line train service step splits tolerance) told before now counted status text =
     MayAnswer (PlanEnds line train service told before now) (PlanSays line train service told)
     (λ said. IsJoinedAnswer said.0 said.1.0 said.1.1.0 step splits tolerance counted) status text
+MayWrite (Sample n splits tolerance) told before now counted status text = IsSampleAnswer n splits tolerance counted status text
 
 -- a whole text that the run may write was written, with its own status
 pub record Wrote (command : Command) (told : List ℕ → Told) (before now : List ℕ → ℕ)
@@ -67,6 +72,7 @@ abbrev pub Names : Command → List ℕ → Type 0
 Names Usage name = ⊥
 Names (Route file splits tolerance) name = name ≡ file
 Names (Plan line train service step splits tolerance) name = (name ≡ line) ⊎ (name ≡ train) ⊎ (name ≡ service)
+Names (Sample n splits tolerance) name = ⊥
 
 -- ---- the words of the system
 

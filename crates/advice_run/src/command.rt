@@ -1,12 +1,14 @@
 //! What the words ask for, and the answer to that.
 
 ghost use Rattle.std.specs.Prelude.{◌≡◌, ◌≤◌, ◌-◌, ℕ, List, IfOk};
+ghost use Rattle.edge_io.specs.Faults.{Told};
 ghost use Rattle.advice_run.specs.Words.{command_by, command_of};
 ghost use Rattle.advice_run.specs.Outcome.{MayWrite, Names};
 
-use crate::command_line::{read_plan_words, read_route_words};
+use crate::command_line::{read_plan_words, read_route_words, read_sample_words};
 use crate::plan::answer_plan;
 use crate::route::answer_route;
+use crate::sample::answer_sample;
 use crate::usage::usage;
 use crate::words::Words;
 use command_files::Answer;
@@ -23,6 +25,8 @@ pub enum FirstWord {
     Route,
     /// `plan`.
     Plan,
+    /// `sample`.
+    Sample,
     /// Another word, or none.
     Other,
 }
@@ -37,6 +41,7 @@ fn first_word(words: &Words) -> FirstWord
     match words.get(0) {
         "route" => FirstWord::Route,
         "plan" => FirstWord::Plan,
+        "sample" => FirstWord::Sample,
         _ => FirstWord::Other,
     }
 }
@@ -58,6 +63,7 @@ pub fn answer<S: Shelf, L: Ledger>(
     match first_word(words) {
         FirstWord::Route => answer_route_words(alloc, words, shelf, boxes, steps),
         FirstWord::Plan => answer_plan_words(alloc, words, shelf, boxes, steps),
+        FirstWord::Sample => answer_sample_words(alloc, words, boxes, steps),
         FirstWord::Other => usage(alloc),
     }
 }
@@ -98,6 +104,22 @@ fn answer_plan_words<S: Shelf, L: Ledger>(
 {
     match read_plan_words(alloc, words)? {
         Some(asked) => answer_plan(alloc, &asked, shelf, boxes, steps),
+        None => usage(alloc),
+    }
+}
+
+/// The answer to words that begin with `sample`.
+fn answer_sample_words<L: Ledger>(
+    alloc: Global,
+    words: &Words,
+    boxes: &mut Vec<Box<dyn Proposer>>,
+    steps: &mut Steps<L>,
+) -> Result<Answer, AllocError>
+    ensures { IfOk result (λ a. (told : List ℕ → Told) (before now : List ℕ → ℕ) →
+        MayWrite (command_by FirstWord.Sample words.now) told before now (steps.new - steps.old) a.status a.text.items) }
+{
+    match read_sample_words(alloc, words)? {
+        Some(asked) => answer_sample(alloc, &asked, boxes, steps),
         None => usage(alloc),
     }
 }

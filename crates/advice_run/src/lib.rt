@@ -8,6 +8,7 @@ mod plan;
 mod program;
 mod route;
 mod rules;
+mod sample;
 mod usage;
 mod words;
 
