@@ -1,4 +1,5 @@
 pub mod Check
 pub mod Plan
 pub mod Words
+pub mod Sample
 pub mod Outcome

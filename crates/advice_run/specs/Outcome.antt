@@ -14,7 +14,8 @@ use Rattle.plan_files.specs.Kinds.{PlanEnds, PlanSays, RouteEnds, RouteSays}
 use Rattle.plan_files.specs.FreshRules.{FreshRules, IsRulesRefusal}
 use Rattle.advice_run.specs.Check.{CheckEnds, CheckSays, IsReportAnswer}
 use Rattle.advice_run.specs.Plan.{IsPlanAnswer}
-use Rattle.advice_run.specs.Words.{Command, Usage, Route, Plan, Check}
+use Rattle.advice_run.specs.Sample.{IsSampleAnswer}
+use Rattle.advice_run.specs.Words.{Command, Usage, Route, Plan, Check, Sample}
 
 -- the text about usage: a line for each command
 abbrev pub usage_text : List ℕ
@@ -22,6 +23,7 @@ usage_text =
     text_line (codes "usage: advice route FILE [--splits N] [--tolerance N]")
     ++ text_line (codes "       advice plan LINE TRAIN SERVICE [--step N] [--splits N] [--tolerance N]")
     ++ text_line (codes "       advice check LINE TRAIN SERVICE REPORT [--step N]")
+    ++ text_line (codes "       advice sample N [--splits N] [--tolerance N]")
 
 -- ---- answers to what files say
 
@@ -67,6 +69,7 @@ MayWrite (Plan line train service step splits tolerance) told before now counted
 MayWrite (Check line train service report step) told before now counted status text =
     MayAnswer (CheckEnds line train service report told before now) (CheckSays line train service report told)
     (λ said. IsJoinedCheck said.0 said.1.0 said.1.1.0 said.1.1.1.0 step counted) status text
+MayWrite (Sample n splits tolerance) told before now counted status text = IsSampleAnswer n splits tolerance counted status text
 
 -- a whole text that the run may write was written, with its own status
 pub record Wrote (command : Command) (told : List ℕ → Told) (before now : List ℕ → ℕ)
@@ -91,6 +94,7 @@ Names Usage name = ⊥
 Names (Route file splits tolerance) name = name ≡ file
 Names (Plan line train service step splits tolerance) name = (name ≡ line) ⊎ (name ≡ train) ⊎ (name ≡ service)
 Names (Check line train service report step) name = (name ≡ line) ⊎ (name ≡ train) ⊎ (name ≡ service) ⊎ (name ≡ report)
+Names (Sample n splits tolerance) name = ⊥
 
 -- ---- the words of the system
 

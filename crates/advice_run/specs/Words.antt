@@ -20,6 +20,8 @@ pub data Command : Type 0 where
   -- the check of the report in the last file, over the line, by the train and for the service in the first three, with a grid of this step
   -- in metres
   Check : List ℕ → List ℕ → List ℕ → List ℕ → ℕ → Command
+  -- a plan over the sample of this number, with so many splits of cells, at this tolerance in per mille
+  Sample : ℕ → ℕ → ℕ → Command
 
 -- ---- the simple commands
 
@@ -50,6 +52,12 @@ check_app =
     with_rule (with_rule (with_rule (with_rule (with_rule (new_app (codes "check")) (positional (codes "line")))
     (positional (codes "train"))) (positional (codes "service"))) (positional (codes "report")))
     (option (codes "step") (codes "100"))
+
+-- `sample N [--splits N] [--tolerance N]`
+abbrev pub sample_app : App
+sample_app =
+    with_rule (with_rule (with_rule (new_app (codes "sample")) (positional (codes "number")))
+    (option (codes "splits") (codes "2000"))) (option (codes "tolerance") (codes "10"))
 
 -- ---- what clap takes of the words, and what the texts that it takes mean
 
@@ -120,6 +128,18 @@ check_of_rows (Some rows) =
     check_of_step (value_of (codes "line") rows) (value_of (codes "train") rows) (value_of (codes "service") rows)
     (value_of (codes "report") rows) (step_in rows)
 
+-- `sample` of this number, or the usage where a number isn't one in its range
+abbrev pub sample_of_numbers : Option ℕ → Option ℕ → Option ℕ → Command
+sample_of_numbers None splits tolerance = Usage
+sample_of_numbers (Some n) None tolerance = Usage
+sample_of_numbers (Some n) (Some splits) None = Usage
+sample_of_numbers (Some n) (Some splits) (Some tolerance) = Sample n splits tolerance
+
+-- `sample`, of a number from 0 to 4,294,967,295
+abbrev pub sample_of_rows : Option (List Row) → Command
+sample_of_rows None = Usage
+sample_of_rows (Some rows) = sample_of_numbers (number_in 0 4294967295 (value_of (codes "number") rows)) (splits_in rows) (tolerance_in rows)
+
 -- the command of a list of words
 abbrev pub command_of : List (List ℕ) → Command
 command_of [] = Usage
@@ -127,6 +147,7 @@ command_of (word ∷ words) =
     if bytes_eq word (codes "route") then route_of_rows (taken route_app (word ∷ words))
     else if bytes_eq word (codes "plan") then plan_of_rows (taken plan_app (word ∷ words))
     else if bytes_eq word (codes "check") then check_of_rows (taken check_app (word ∷ words))
+    else if bytes_eq word (codes "sample") then sample_of_rows (taken sample_app (word ∷ words))
     else Usage
 
 -- the command of words whose first word is this
@@ -134,4 +155,5 @@ abbrev pub command_by : FirstWord → List (List ℕ) → Command
 command_by first_word.Route words = route_of_rows (taken route_app words)
 command_by first_word.Plan words = plan_of_rows (taken plan_app words)
 command_by first_word.Check words = check_of_rows (taken check_app words)
+command_by first_word.Sample words = sample_of_rows (taken sample_app words)
 command_by first_word.Other words = Usage

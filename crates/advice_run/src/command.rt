@@ -1,13 +1,15 @@
 //! What the words ask for, and the answer to that.
 
 ghost use Rattle.std.specs.Prelude.{◌≡◌, ◌≤◌, ◌-◌, ℕ, List, IfOk};
+ghost use Rattle.edge_io.specs.Faults.{Told};
 ghost use Rattle.advice_run.specs.Words.{command_by, command_of};
 ghost use Rattle.advice_run.specs.Outcome.{MayWrite, Names};
 
 use crate::check::answer_check;
-use crate::command_line::{read_check_words, read_plan_words, read_route_words};
+use crate::command_line::{read_check_words, read_plan_words, read_route_words, read_sample_words};
 use crate::plan::answer_plan;
 use crate::route::answer_route;
+use crate::sample::answer_sample;
 use crate::usage::usage;
 use crate::words::Words;
 use command_files::Answer;
@@ -26,6 +28,8 @@ pub enum FirstWord {
     Plan,
     /// `check`.
     Check,
+    /// `sample`.
+    Sample,
     /// Another word, or none.
     Other,
 }
@@ -41,6 +45,7 @@ fn first_word(words: &Words) -> FirstWord
         "route" => FirstWord::Route,
         "plan" => FirstWord::Plan,
         "check" => FirstWord::Check,
+        "sample" => FirstWord::Sample,
         _ => FirstWord::Other,
     }
 }
@@ -63,6 +68,7 @@ pub fn answer<S: Shelf, L: Ledger>(
         FirstWord::Route => answer_route_words(alloc, words, shelf, boxes, steps),
         FirstWord::Plan => answer_plan_words(alloc, words, shelf, boxes, steps),
         FirstWord::Check => answer_check_words(alloc, words, shelf, steps),
+        FirstWord::Sample => answer_sample_words(alloc, words, boxes, steps),
         FirstWord::Other => usage(alloc),
     }
 }
@@ -122,6 +128,22 @@ fn answer_check_words<S: Shelf, L: Ledger>(
 {
     match read_check_words(alloc, words)? {
         Some(asked) => answer_check(alloc, &asked, shelf, steps),
+        None => usage(alloc),
+    }
+}
+
+/// The answer to words that begin with `sample`.
+fn answer_sample_words<L: Ledger>(
+    alloc: Global,
+    words: &Words,
+    boxes: &mut Vec<Box<dyn Proposer>>,
+    steps: &mut Steps<L>,
+) -> Result<Answer, AllocError>
+    ensures { IfOk result (λ a. (told : List ℕ → Told) (before now : List ℕ → ℕ) →
+        MayWrite (command_by FirstWord.Sample words.now) told before now (steps.new - steps.old) a.status a.text.items) }
+{
+    match read_sample_words(alloc, words)? {
+        Some(asked) => answer_sample(alloc, &asked, boxes, steps),
         None => usage(alloc),
     }
 }

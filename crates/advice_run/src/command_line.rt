@@ -5,10 +5,13 @@ ghost use Rattle.clap.specs.Words.{app_of, found_of, is_simple_and_free, rows_of
 ghost use Rattle.advice_run.specs.Words.{Check, Plan, Route, Usage, check_app, check_of_rows, number_in, option, plan_app, plan_of_rows};
 ghost use Rattle.advice_run.specs.Words.{positional, route_app, route_of_rows, taken, value_of};
 
+mod sample_words;
+
 use crate::words::Words;
 use clap::error::ErrorKind;
 use clap::{Arg, ArgAction, ArgMatches, Command};
 use rail_base::read_digits;
+pub use sample_words::{SampleWords, read_sample_words};
 use std::alloc::{AllocError, Global};
 
 /// A command with one more required positional.

@@ -10,6 +10,7 @@ mod program;
 mod report_file;
 mod route;
 mod rules;
+mod sample;
 mod usage;
 mod words;
 
