@@ -27,13 +27,6 @@ use Rattle.costate_checker.specs.declared.refused.Refused.TheVariants.{Number, D
 use Rattle.costate_checker.specs.Holds.{Holds, Shows, relaxation_in}
 use Rattle.costate_checker.specs.Refusals.{unless_so, counts_refusal, drive_refusal, early_refusal, bound_refusal, Refuses}
 
--- no costate past the last is large either
-pub small_costates : (costates : List ℤ) (i : ℕ) → All (λ s. unsigned_abs s ≤ 2 ^ 22) costates → unsigned_abs (slice_index_or costates i (pos 0)) ≤ 2 ^ 22
-small_costates costates i h = elim (cases_lt i (length costates)) [
-  | inl l ↦ h i (pos 0) l
-  | inr l ↦ rw (get_or_past costates i (pos 0) l) (omega arith)
-]
-
 -- ---- tests
 
 so_none : (b : Bool) (e : Refused) → unless_so b e ≡ None → b ≡ true

@@ -56,7 +56,6 @@ fn broken_drive<C: StepCost>(
 }
 
 /// The bound that a certificate's prices, costates and speeds give, where the drives have these ranges of speeds.
-#[tactic(auto, using(crate::proofs::HoldLemmas::small_costates))]
 fn own_bound(
     rules: &Rules,
     share: u16,
