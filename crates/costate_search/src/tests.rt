@@ -1,6 +1,6 @@
 //! The search on a short run.
 
-ghost use Rattle.std.specs.Prelude.{◌≡◌, ◌<◌};
+ghost use Rattle.std.specs.Prelude.{◌≡◌, ◌<◌, ◌≤◌, ◌^◌};
 
 use crate::search_costates;
 use costate_bound::Relaxation;
@@ -8,7 +8,7 @@ use drive_rules::{RouteFault, Rules, read_route};
 use link_costs::prices_for;
 use rail_specs::Narrow;
 use speed_envelopes::ranges;
-use std::alloc::Global;
+use std::alloc::{AllocError, Global};
 use std::marker::Brand;
 use std::sync::ledger::{Blank, Ledger};
 use std::test::Fail;
@@ -28,17 +28,36 @@ fn read_with<L: Ledger>(alloc: Global, blank: Blank) -> Result<Rules, RouteFault
     read_route(alloc, ROUTE, &mut steps)
 }
 
+/// The bound by costates that are searched for, at a price and with tangents at a speed of the middle point; none where the rules aren't those
+/// of the route or have no drive.
+fn found_bound(
+    alloc: Global,
+    rules: &Rules,
+    price: u64,
+    speed: u16,
+) -> Result<Option<i128>, AllocError>
+    requires { price ≤ 2 ^ 50 }
+{
+    if rules.timings().len() != 1 || rules.steps() != 2 {
+        return Ok(None);
+    }
+    let prices = prices_for(alloc, rules, &[price])?;
+    let Some(found) = ranges(alloc, rules, &Narrow::none())? else {
+        return Ok(None);
+    };
+    let speeds = [0, speed, 0];
+    let costates = search_costates(alloc, rules, 0, &prices, &speeds, &found)?;
+    let relaxation = Relaxation::make(rules, 0, &prices, &speeds, costates.as_slice());
+    Ok(Some(relaxation.bound(&found)))
+}
+
 #[test]
 fn two_steps(rt: HostRuntime) -> Result<(), Fail> {
     let alloc = rt.alloc();
     let rules = read_with::<Brand>(alloc, Blank::new(1))
         .ok()
         .ok_or("the route is read")?;
-    let prices = prices_for(alloc, &rules, &[106_744_794])?;
-    let found = ranges(alloc, &rules, &Narrow::none())?.ok_or("there is a drive")?;
-    let speeds = [0, 598, 0];
-    let costates = search_costates(alloc, &rules, 0, &prices, &speeds, &found)?;
-    let bound = Relaxation::make(&rules, 0, &prices, &speeds, &costates).bound(&found);
-    assert_eq!(rt; bound, 3_764_035_312_412);
+    let bound = found_bound(alloc, &rules, 106_744_794, 598)?;
+    assert_eq!(rt; bound, Some(3_764_035_312_412));
     Ok(())
 }
