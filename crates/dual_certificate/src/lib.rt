@@ -13,12 +13,11 @@ mod writing;
 
 pub use certificate::{CellList, CertCell, CertPoint, Certificate, PointList, PriceList};
 pub use fault::CertFault;
-pub use part::certificate_part;
 pub use number::{MOST, read_spelled};
+pub use part::certificate_part;
 pub use reading::{read, read_prices};
 pub use text::{Rest, after_word};
-pub use writing::{put_one, put_prices};
-pub use writing::write;
+pub use writing::{put_one, put_prices, write};
 
 #[cfg(test)]
 mod tests;
