@@ -1,6 +1,9 @@
 -- Ranges of speeds: their order and their ends.
-use Rattle.std.proofs.Common.{ℕ, ◌≡◌, ◌+◌, ◌≤◌}
-use Rattle.std.specs.Prelude.{List, length, slice_index}
+use Rattle.std.proofs.Common.{ℕ, ◌≡◌, ◌+◌, ◌≤◌, ◌^◌, arith, inl, inr}
+use Rattle.std.proofs.lemmas.Bool.{cases_lt}
+use Rattle.std.proofs.lemmas.List.{get_or_past}
+use Rattle.std.specs.Int.RustNames.{unsigned_abs}
+use Rattle.std.specs.Prelude.{ℤ, pos, List, All, length, slice_index, slice_index_or}
 use Rattle.rail_specs.specs.Rules.{Rules}
 use Rattle.rail_specs.specs.Ranges.{AreRanges, no_narrowing}
 use Rattle.rule_parts.specs.Shaped.{IsShaped}
@@ -16,3 +19,10 @@ pub range_top : (r : Rules) (low high : List ℕ) (k : ℕ) → IsShaped r → A
 range_top r low high k s a = top_of_drive r high s a.greatest.drive.drive k
 
 pub ruleset range_laws = (range_count, range_order, range_top)
+
+-- no costate past the last is large either
+pub small_costates : (costates : List ℤ) (i : ℕ) → All (λ s. unsigned_abs s ≤ 2 ^ 22) costates → unsigned_abs (slice_index_or costates i (pos 0)) ≤ 2 ^ 22
+small_costates costates i h = elim (cases_lt i (length costates)) [
+  | inl l ↦ h i (pos 0) l
+  | inr l ↦ rw (get_or_past costates i (pos 0) l) (omega arith)
+]

@@ -1,5 +1,5 @@
 //! What a bound by costates is computed from.
-ghost use Rattle.std.specs.Prelude.{◌≡◌, ℕ, ◌+◌, ◌^◌, ◌≤◌, pos, length, slice_index_or};
+ghost use Rattle.std.specs.Prelude.{◌≡◌, ℕ, ◌+◌, ◌^◌, ◌≤◌, length, All};
 ghost use Rattle.std.specs.Int.RustNames.{unsigned_abs};
 ghost use Rattle.bound_specs.specs.Prices.{AreFor};
 ghost use Rattle.costate_bound.specs.Relaxation.{IsRelaxation};
@@ -36,6 +36,7 @@ impl<'a> Relaxation<'a> {
     /// The relaxation of these rules, where braking gives back this share of its work, in per mille, at prices for the rules' timing points,
     /// with a speed for each point and a costate, from -2^22 to 2^22, for each step. A share above 1,000 counts as 1,000. Any speeds and
     /// costates will do; those of a drive near the best give the best bound.
+    #[tactic(auto, using(crate::proofs::Ranges::small_costates))]
     pub fn make(
         rules: &'a Rules,
         share: u16,
@@ -46,7 +47,7 @@ impl<'a> Relaxation<'a> {
         requires prices { AreFor rules.now prices.now }
         requires speeds { length speeds.now ≡ length rules.now.steps + 1 }
         requires costates { length costates.now ≡ length rules.now.steps }
-        requires small { (i : ℕ) → unsigned_abs (slice_index_or costates.now i (pos 0)) ≤ 2 ^ 22 }
+        requires small { All (λ s. unsigned_abs s ≤ 2 ^ 22) costates.now }
         ensures { result ≡ record { rules = rules.now; share = share; prices = prices.now; speeds = speeds.now; costates = costates.now } }
     {
         rules.known();

@@ -80,13 +80,7 @@ impl<'a> Rest<'a> {
     /// Takes line n, which is a word and a number from `low` to `high`. `Form` where it is no word and number, `Range` where the number is
     /// out of its range.
     #[tactic(auto, unfolding(crate::specs::Grammar::number_at))]
-    pub fn number(
-        &mut self,
-        n: u32,
-        word: &[u8],
-        low: i128,
-        high: i128,
-    ) -> Result<i128, CertFault>
+    pub fn number(&mut self, n: u32, word: &[u8], low: i128, high: i128) -> Result<i128, CertFault>
         ensures value { Gives (λ x. (x, self.new)) result (number_at n word.now low high self.old) }
         ensures low { IfOk result (λ x. low ≤ℤ x) }
         ensures high { IfOk result (λ x. x ≤ℤ high) }

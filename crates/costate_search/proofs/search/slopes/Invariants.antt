@@ -1,0 +1,5 @@
+use Rattle.std.proofs.Common.{◌≡◌, length, map, take}
+use Rattle.costate_search.proofs.search.slopes.Given as goal
+
+abbrev pub invariant-loop-i : goal.invariant-loop-i
+invariant-loop-i l = length l.slopes.items ≡ l.i

@@ -1,0 +1,11 @@
+//! The search for costates: an ascent that makes the bound by costates large. It promises nothing but that what it finds may be used; the
+//! bound itself is computed by `costate_bound`.
+#![tactic(auto)]
+
+mod course;
+mod search;
+
+pub use search::search_costates;
+
+#[cfg(test)]
+mod tests;
