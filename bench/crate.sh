@@ -1,4 +1,4 @@
-# Read by certificates.sh, judge.sh, line_file.sh, potentials.sh and price_search.sh: builds a small program over the crates, in a copy of the repository. Needs rt and
+# Read by certificates.sh, compose.sh, judge.sh, line_file.sh, potentials.sh, price_search.sh and search_program.sh: builds a small program over the crates, in a copy of the repository. Needs rt and
 # valgrind. What was proved before is copied too, so that only what changed is proved again.
 top=$(cd "$(dirname "$0")/.." && pwd)
 work=$(mktemp -d)
@@ -18,6 +18,47 @@ fn rules_of<L: Ledger>(alloc: Global, text: &[u8], blank: Blank) -> Option<Rules
 
 fn rules(alloc: Global, text: &[u8]) -> Option<Rules> {
     rules_of::<Brand>(alloc, text, Blank::new(1))
+}
+'
+
+# How a program reads the rules of a line, a train and a service, whose texts are parted by a 0: behind `use` lines.
+reading_files='
+/// What stands before the first 0, and what behind it.
+fn parted(text: &[u8]) -> (&[u8], &[u8]) {
+    for i in 0..text.len() {
+        if text[i] == 0 {
+            return (&text[..i], &text[i + 1..]);
+        }
+    }
+    (text, &[])
+}
+
+/// The rules of the three files at a step.
+fn rules_of_files_with<L: Ledger>(alloc: Global, text: &[u8], step: u16, blank: Blank) -> Option<Rules>
+    requires name { blank.name ≡ L.name }
+    requires parts { blank.parts ≡ L.parts }
+    requires some { 0 < L.parts }
+    requires step { (10 ≤ step) × (step ≤ 1000) }
+{
+    let mut steps: Steps<L> = Steps::new(blank);
+    let (line, rest) = parted(text);
+    let (train, service) = parted(rest);
+    let Ok(line) = read_line(alloc, line) else {
+        return None;
+    };
+    let Ok(train) = read_train(alloc, train) else {
+        return None;
+    };
+    let Ok(service) = read_service(alloc, service) else {
+        return None;
+    };
+    let setup = Setup::fresh(alloc, step, &service);
+    Rules::make(alloc, &line, &train, &service, &setup, &mut steps).ok()
+}
+
+/// The same with a counter of its own.
+fn rules_of_files(alloc: Global, text: &[u8], step: u16) -> Option<Rules> {
+    rules_of_files_with::<Brand>(alloc, text, step.max(10).min(1000), Blank::new(1))
 }
 '
 
@@ -64,6 +105,23 @@ use Rattle.bench.proofs.rules.Given as goal
 abbrev pub ghosts-rules_of : goal.ghosts-rules_of
 ghosts-rules_of a = record { name = a.blank.name; parts = a.blank.parts }
 ANTT
+}
+
+proof_of_files() { # the same of `rules_of_files`
+    proof rules_of_files/Invariants.antt <<'ANTT'
+use Rattle.bench.proofs.rules_of_files.Given as goal
+
+abbrev pub ghosts-rules_of_files_with : goal.ghosts-rules_of_files_with
+ghosts-rules_of_files_with a = record { name = a.blank.name; parts = a.blank.parts }
+ANTT
+}
+
+files() { # the three files as one text, parted by a 0
+    cat line.csv
+    printf '\0'
+    cat train.toml
+    printf '\0'
+    cat service.csv
 }
 
 build() { # the program over these crates, once its main.rt is there; its status is its own, so what counts is whether it was built

@@ -18,14 +18,6 @@ sample() { # the line and the service of the sample of this number
     printf 'place,name,dwell,latest\n0,S0,,\n10000,S1,30,\n20000,S2,30,\n30000,S3,30,\n40000,S4,,3600\n' >service.csv
 }
 
-files() { # the three files as one text, parted by a 0
-    cat line.csv
-    printf '\0'
-    cat train.toml
-    printf '\0'
-    cat service.csv
-}
-
 searched() { # what the program says at this step of metres: after the family, or after the search
     files | "$program" "$1" "$2"
 }
@@ -49,44 +41,9 @@ use std::sync::ledger::{Blank, Ledger};
 use step_energy::Steps;
 use train_file::read_train;
 
-/// What stands before the first 0, and what behind it.
-fn parted(text: &[u8]) -> (&[u8], &[u8]) {
-    for i in 0..text.len() {
-        if text[i] == 0 {
-            return (&text[..i], &text[i + 1..]);
-        }
-    }
-    (text, &[])
-}
-
-/// The rules of the three files at a step.
-fn rules_of<L: Ledger>(alloc: Global, text: &[u8], step: u16, blank: Blank) -> Option<Rules>
-    requires name { blank.name ≡ L.name }
-    requires parts { blank.parts ≡ L.parts }
-    requires some { 0 < L.parts }
-    requires step { (10 ≤ step) × (step ≤ 1000) }
-{
-    let mut steps: Steps<L> = Steps::new(blank);
-    let (line, rest) = parted(text);
-    let (train, service) = parted(rest);
-    let Ok(line) = read_line(alloc, line) else {
-        return None;
-    };
-    let Ok(train) = read_train(alloc, train) else {
-        return None;
-    };
-    let Ok(service) = read_service(alloc, service) else {
-        return None;
-    };
-    let setup = Setup::fresh(alloc, step, &service);
-    Rules::make(alloc, &line, &train, &service, &setup, &mut steps).ok()
-}
-
-/// The same with a counter of its own.
-fn rules(alloc: Global, text: &[u8], step: u16) -> Option<Rules> {
-    rules_of::<Brand>(alloc, text, step.max(10).min(1000), Blank::new(1))
-}
-
+RT
+echo "$reading_files" >>"$main"
+cat >>"$main" <<'RT'
 /// What the best of the family costs, and what is found from it: none where there is no drive on time.
 fn energies(alloc: Global, rules: &Rules, search: bool) -> Result<Option<(i128, i128)>, AllocError> {
     match compose_with_cost(alloc, rules, &Traction)? {
@@ -114,7 +71,7 @@ fn main(rt: HostRuntime) -> io::Result<()> {
     }
     let mut text = Vec::new(rt.alloc());
     rt.stdin().read_to_end(&mut text)?;
-    let Some(rules) = rules(rt.alloc(), text.as_slice(), step) else {
+    let Some(rules) = rules_of_files(rt.alloc(), text.as_slice(), step) else {
         return println!(rt; "refused");
     };
     match energies(rt.alloc(), &rules, search) {
@@ -124,5 +81,5 @@ fn main(rt: HostRuntime) -> io::Result<()> {
     }
 }
 RT
-proof_of_rules
+proof_of_files
 build "drive_search rail_specs rail_base step_energy line_file train_file joined_rules drive_rules phase_composer" </dev/null

@@ -17,31 +17,28 @@ use Rattle.drive_report.specs.Report.{late_text, report_text}
 use Rattle.line_file.specs.declared.line.Line.{Line}
 use Rattle.line_file.specs.declared.service.Service.{Service}
 use Rattle.train_file.specs.declared.train.Train.{Train}
-use Rattle.advice_run.specs.Plan.{IsPlanAnswer}
+use Rattle.advice_run.specs.Plan.{IsPlanAnswer, IsReported}
 use Rattle.advice_run.specs.Outcome.{IsJoinedAnswer, IsJoinedCheck, IsRulesAnswer}
 use Rattle.advice_run.proofs.CertificateLemmas.{holds, in_range}
 
 -- a plan, with its certificate
 pub drive_answer : (cost : ℤ → ℤ) (r : Rules) (splits tolerance : ℕ) (regeneration : Option ℕ) (status : ℕ) (text : List ℕ) (p : PlanData) (c : Certificate) → splits ≤ 50000 → IsShaped r → ArePrices p.prices
     → IsSomePlan cost r splits tolerance p → IsCertificateOf p c → All IsPoint c.points → status ≡ (if p.met then 0 else 1) → text ≡ report_text r c p.met p.splits regeneration
-    → certificate_part text ≡ text_of c → IsPlanAnswer cost r splits tolerance regeneration status text
+    → certificate_part text ≡ text_of c → IsReported cost r splits tolerance regeneration status text p
 drive_answer cost r splits tolerance regeneration status text p c few shaped prices is said fit ends says part =
     let sound = in_range cost r splits tolerance p c few shaped prices is said fit in
-    inr (inr (
-      p,
-      (
-        c,
-        record {
-          plan = is;
-          certificate = said;
-          in_range = sound;
-          holds = holds cost r splits tolerance p c shaped prices is said;
-          ends = ends;
-          says = says;
-          reads = ap certificate_in part ∙ is_again c sound;
-        },
-      ),
-    ))
+    (
+      c,
+      record {
+        plan = is;
+        certificate = said;
+        in_range = sound;
+        holds = holds cost r splits tolerance p c shaped prices is said;
+        ends = ends;
+        says = says;
+        reads = ap certificate_in part ∙ is_again c sound;
+      },
+    )
 
 -- no drive is on time
 pub late_answer : (cost : ℤ → ℤ) (r : Rules) (splits tolerance : ℕ) (regeneration : Option ℕ) (text : List ℕ) (timing arrival : ℕ) → IsLate r timing arrival

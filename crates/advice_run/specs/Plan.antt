@@ -37,10 +37,15 @@ pub record IsDriveAnswer (cost : ℤ → ℤ) (r : Rules) (splits tolerance : �
   pub says : text ≡ report_text r c p.met p.splits regeneration
   pub reads : certificate_in (certificate_part text) ≡ Ok c
 
+-- the same, with some certificate
+abbrev pub IsReported : (ℤ → ℤ) → Rules → ℕ → ℕ → Option ℕ → ℕ → List ℕ → PlanData → Type 0
+IsReported cost r splits tolerance regeneration status text p =
+    (c : Certificate) × IsDriveAnswer cost r splits tolerance regeneration status text p c
+
 -- the text and the status are an answer for the rules at this cost of work, where so many splits are allowed, and at this tolerance in per
 -- mille; for a train whose file says so with the share that its brakes give back, in per mille
 abbrev pub IsPlanAnswer : (ℤ → ℤ) → Rules → ℕ → ℕ → Option ℕ → ℕ → List ℕ → Type 0
 IsPlanAnswer cost r splits tolerance regeneration status text =
     IsNoDriveAnswer r status text
     ⊎ (((speeds : List ℕ) × ((j : ℕ) × IsLateAnswer r status text speeds j))
-    ⊎ ((p : PlanData) × ((c : Certificate) × IsDriveAnswer cost r splits tolerance regeneration status text p c)))
+    ⊎ ((p : PlanData) × IsReported cost r splits tolerance regeneration status text p))

@@ -1,5 +1,5 @@
 -- The answer to `sample`: which text and which status the number of a sample allows.
-use Rattle.std.specs.Prelude.{ℕ, ℤ, pos, ◌≡◌, ◌+◌, ◌++◌, ◌⊎◌, Bool, List, codes, length}
+use Rattle.std.specs.Prelude.{ℕ, ℤ, pos, ◌≡◌, ◌+◌, ◌++◌, ◌⊎◌, Bool, List, None, codes, length}
 use Rattle.rail_base.specs.Texts.{number_line}
 use Rattle.rail_specs.specs.Rules.{Rules}
 use Rattle.rail_specs.specs.Cost.{traction_cost}
@@ -7,7 +7,7 @@ use Rattle.bound_specs.specs.Cells.{cell_count}
 use Rattle.planner.specs.declared.answer.Plan.{Plan as PlanData}
 use Rattle.drive_report.specs.Report.{gap_line}
 use Rattle.sample_rules.specs.SampleRules.{IsSampleRules}
-use Rattle.advice_run.specs.Plan.{IsDriveAnswer, IsLateAnswer, IsNoDriveAnswer}
+use Rattle.advice_run.specs.Plan.{IsLateAnswer, IsNoDriveAnswer, IsReported}
 
 -- the summary of a plan for sample n: how many points its grid has, whether the gap is met, the energy and the bound in 0.5 microjoule, how
 -- many cells the bound has and how many splits made them
@@ -20,7 +20,7 @@ summary_text n points met energy bound cells splits =
 -- there is a report which is an answer to a plan for these rules, with this status, and the text is the summary of that plan
 pub record IsSummary (n : ℕ) (r : Rules) (splits tolerance status : ℕ) (text : List ℕ) (p : PlanData) : Type 0 where
   pub report : List ℕ
-  pub answers : IsDriveAnswer traction_cost r splits tolerance status report p
+  pub answers : IsReported traction_cost r splits tolerance None status report p
   pub says : text ≡ summary_text n (length r.steps + 1) p.met p.cost p.bound (cell_count p.cells) p.splits
 
 -- the text and the status are an answer for the rules of sample n: no drive, none on time, or the summary of a plan

@@ -2,7 +2,7 @@
 
 ghost use Rattle.std.specs.Prelude.{◌≡◌, ◌≤◌, IfOk};
 ghost use Rattle.planner.specs.Plans.{IsSomePlan};
-ghost use Rattle.advice_run.specs.Plan.{IsPlanAnswer};
+ghost use Rattle.advice_run.specs.Plan.{IsPlanAnswer, IsReported};
 
 use command_files::{Answer, status};
 use drive_report::{late_text, no_drive_text, report};
@@ -50,7 +50,7 @@ pub fn rules_answer<C: StepCost>(
 }
 
 /// The answer that a plan gives: the report of its certificate.
-fn plan_answer<C: StepCost>(
+pub(crate) fn plan_answer<C: StepCost>(
     alloc: Global,
     rules: &Rules,
     cost: &C,
@@ -60,7 +60,7 @@ fn plan_answer<C: StepCost>(
 ) -> Result<Answer, AllocError>
     requires splits { options.splits ≤ 50000 }
     requires plan { IsSomePlan (C.cost cost.now) rules.now options.splits options.tolerance plan.now }
-    ensures { IfOk result (λ a. IsPlanAnswer (C.cost cost.now) rules.now options.splits options.tolerance regeneration a.status a.text.items) }
+    ensures { IfOk result (λ a. IsReported (C.cost cost.now) rules.now options.splits options.tolerance regeneration a.status a.text.items plan.now) }
 {
     // Only the contract speaks of these two: the plan is one at this cost, within these options.
     let _ = cost;

@@ -10,6 +10,7 @@ ghost use Rattle.advice_run.specs.Outcome.{MayWrite};
 ghost use Rattle.advice_run.specs.Sample.{IsSummaryAnswer, summary_text};
 
 use crate::command_line::SampleWords;
+use crate::rules::plan_answer;
 use command_files::{Answer, status};
 use drive_report::{late_text, no_drive_text};
 use drive_rules::Rules;
@@ -54,7 +55,7 @@ fn summary(
     Ok(out)
 }
 
-/// The answer that a plan gives.
+/// The answer that a plan gives: the summary of its report, which is made and left.
 fn plan_summary(
     alloc: Global,
     number: u32,
@@ -62,11 +63,11 @@ fn plan_summary(
     options: Options,
     plan: &Plan,
 ) -> Result<Answer, AllocError>
-    requires { IsSomePlan traction_cost rules.now options.splits options.tolerance plan.now }
+    requires splits { options.splits ≤ 50000 }
+    requires plan { IsSomePlan traction_cost rules.now options.splits options.tolerance plan.now }
     ensures { IfOk result (λ a. IsSummaryAnswer number rules.now options.splits options.tolerance a.status a.text.items) }
 {
-    // Only the contract speaks of these: the plan is one within these options.
-    let _ = options;
+    let reported = plan_answer(alloc, rules, &Traction, options, None, plan)?;
     let points = rules.points() as u64;
     let cells = plan.cells.count() as u64;
     let text = summary(
@@ -79,12 +80,10 @@ fn plan_summary(
         cells,
         plan.splits,
     )?;
-    let status = if plan.met {
-        status::GAP_MET
-    } else {
-        status::GAP_OPEN
-    };
-    Ok(Answer { status, text })
+    Ok(Answer {
+        status: reported.status,
+        text,
+    })
 }
 
 /// The answer to the rules of a sample. The boxes propose drives; once there is a plan, those of which nothing was taken are dropped.

@@ -77,7 +77,7 @@ fn routes_are_answered(rt: HostRuntime) -> Result<(), Fail> {
             60,
             &[LEVEL, LEVEL, LEVEL],
             0,
-            "advice 1\ngap met\nenergy 7255840000000\nkilojoules 3628\nbound 7224408070205\ncells 686\nsplits 682\nphase 0 200 part 0 828\nphase 200 300 brake 828 0\ntime 300 59991 60000\nspeeds 0 839 828 0\nend\n",
+            "advice 1\ngap met\nenergy 7255840000000\nkilojoules 3628\nbound 7224408070205\ncells 643\nsplits 639\nphase 0 200 part 0 828\nphase 200 300 brake 828 0\ntime 300 59991 60000\nspeeds 0 839 828 0\nend\n",
         ),
         (51_000, 50, &[LEVEL], 3, "refused route range 8\n"),
     ];
@@ -97,7 +97,7 @@ fn phased(case: u32) -> (&'static [&'static str], u8, &'static str) {
         0 => (
             &[LEVEL, LEVEL, "100 0 989"],
             0,
-            "advice 1\ngap met\nenergy 7255840000000\nkilojoules 3628\nbound 7219788965516\ncells 686\nsplits 682\nphase 0 200 part 0 828\nphase 200 300 brake 828 0\ntime 300 59991 60000\nspeeds 0 839 828 0\nend\n",
+            "advice 1\ngap met\nenergy 7255840000000\nkilojoules 3628\nbound 7219788965516\ncells 643\nsplits 639\nphase 0 200 part 0 828\nphase 200 300 brake 828 0\ntime 300 59991 60000\nspeeds 0 839 828 0\nend\n",
         ),
         // Up to a speed below the limit, with less traction than there is; 2,324.445 kJ.
         _ => (

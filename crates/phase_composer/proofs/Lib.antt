@@ -1,3 +1,4 @@
 pub mod FamilyLemmas
 pub mod CapLemmas
 pub mod CoastingLemmas
+mod FamilyExamples
