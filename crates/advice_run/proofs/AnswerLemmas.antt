@@ -26,8 +26,7 @@ pub drive_answer : (cost : ℤ → ℤ) (r : Rules) (splits tolerance : ℕ) (re
     → IsSomePlan cost r splits tolerance p → IsCertificateOf p c → All IsPoint c.points → status ≡ (if p.met then 0 else 1) → text ≡ report_text r c p.met p.splits regeneration
     → certificate_part text ≡ text_of c → IsReported cost r splits tolerance regeneration status text p
 drive_answer cost r splits tolerance regeneration status text p c few shaped prices is said fit ends says part =
-    let sound = in_range cost r splits tolerance p c few shaped prices is said fit in
-    (
+    let sound = in_range cost r splits tolerance p c few shaped prices is said fit in (
       c,
       record {
         plan = is;
