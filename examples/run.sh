@@ -1,9 +1,11 @@
 #!/bin/sh
-# Runs each example and compares its status and what it prints with what is said here. Ends with the number that differ.
+# Runs each example and compares its status and what it prints, up to where a certificate begins, with what is said here; and checks that each
+# plan's report is certified. Ends with the number that differ.
 cd "$(dirname "$0")" || exit 1
+report=$(mktemp)
 got=$(mktemp)
 want=$(mktemp)
-trap 'rm -f "$got" "$want"' EXIT
+trap 'rm -f "$report" "$got" "$want"' EXIT
 failed=0
 
 try() { # the wanted status; the wanted text, with '|' for line ends, or the file of a long one; and the words
@@ -14,7 +16,8 @@ try() { # the wanted status; the wanted text, with '|' for line ends, or the fil
     wanted=$1
     shift 2
     status=0
-    ../advice "$@" >"$got" || status=$?
+    ../advice "$@" >"$report" || status=$?
+    sed '/^certificate 1$/q' "$report" >"$got"
     if [ "$status" = "$wanted" ] && cmp -s "$want" "$got"; then
         echo "ok   $*"
     else
@@ -24,20 +27,42 @@ try() { # the wanted status; the wanted text, with '|' for line ends, or the fil
     fi
 }
 
+certify() { # of a plan: the words behind the command, whose report is checked with the same step
+    ../advice plan "$@" >"$report"
+    if ../advice check "$1" "$2" "$3" "$report" ${4+"$4"} ${5+"$5"} >"$got"; then
+        echo "ok   check of the report of $*"
+    else
+        echo "DIFF check of the report of $*: $(cat "$got")"
+        failed=$((failed + 1))
+    fi
+}
+
 # Builds the program where it isn't built yet; without words it answers with the usage.
 ../advice >/dev/null || [ $? != 70 ] || exit 70
 
-run_200m='advice 1|gap met|energy 6600000000000|kilojoules 3300|bound 6599679787200|cells 1002|splits 999|phase 0 100 part 0 800|phase 100 200 brake 800 0|time 200 50000 50000|speeds 0 800 0|end|'
-whole_200m='advice 1|gap open|energy 6600000000000|kilojoules 3300|bound 200010000000|cells 3|splits 0|phase 0 100 part 0 800|phase 100 200 brake 800 0|time 200 50000 50000|speeds 0 800 0|end|'
-usage='usage: advice route FILE [--splits N] [--tolerance N]|       advice plan LINE TRAIN SERVICE [--step N] [--splits N] [--tolerance N]|       advice check LINE TRAIN SERVICE REPORT [--step N]|       advice session LINE TRAIN SERVICE EVENTS [--step N] [--splits N] [--tolerance N]|       advice sample N [--splits N] [--tolerance N]|'
+run_200m='advice 1|gap met|energy 6600000000000|kilojoules 3300|bound 6599679787200|cells 1002|splits 999|phase 0 100 part 0 800|phase 100 200 brake 800 0|time 200 50000 50000|certificate 1|'
+whole_200m='advice 1|gap open|energy 6600000000000|kilojoules 3300|bound 200010000000|cells 3|splits 0|phase 0 100 part 0 800|phase 100 200 brake 800 0|time 200 50000 50000|certificate 1|'
+regained_200m='advice 1|gap open|energy 3500000000000|kilojoules 1750|regeneration 500|traction 6600000000000|bound -4699990000000|cells 3|splits 0|phase 0 100 part 0 800|phase 100 200 brake 800 0|time 200 50000 50000|certificate 1|'
+usage='usage: advice route FILE [--splits N] [--tolerance N]|       advice plan LINE TRAIN SERVICE [--step N] [--splits N] [--tolerance N]|       advice check LINE TRAIN SERVICE REPORT [--step N]|       advice sample N [--splits N] [--tolerance N]|'
 
 # From one stop to the next: as three files, as one, and without a split, so that the gap is open.
 try 0 "$run_200m" plan 200m/line.csv 200m/train.toml 200m/service.csv
 try 0 "$run_200m" route two_steps.route
 try 1 "$whole_200m" route two_steps.route --splits 0
 
+# Half of the work of braking is given back.
+try 1 "$regained_200m" plan 200m/line.csv regaining/train.toml 200m/service.csv --splits 0
+
+# Reports that are checked: one of these files, whole and with a potential raised; and those of other plans.
+try 0 'certified energy 6600000000000 bound 200010000000|' check 200m/line.csv 200m/train.toml 200m/service.csv answers/200m.txt
+try 9 'refused certificate potential 1 0 0|' check 200m/line.csv 200m/train.toml 200m/service.csv bad/potential.txt
+try 9 'refused certificate number energy|' check 200m/line.csv regaining/train.toml 200m/service.csv answers/200m.txt
+certify 200m/line.csv regaining/train.toml 200m/service.csv
+certify 6km/line.csv 6km/train.toml 6km/service.csv --step 500
+certify 40km/line.csv 40km/train.toml 40km/service.csv --step 200
+
 # Downhill all the way: no energy is wanted, so none can be saved, and the gap is met.
-try 0 'advice 1|gap met|energy 0|kilojoules 0|bound 0|cells 920|splits 917|phase 0 200 brake 0 0|time 200 43574 50000|speeds 0 918 0|end|' route downhill.route
+try 0 'advice 1|gap met|energy 0|kilojoules 0|bound 0|cells 920|splits 917|phase 0 200 brake 0 0|time 200 43574 50000|certificate 1|' route downhill.route
 
 # Gradients and a restriction, by steps of 500 m; and a line of 40 km with two stops on the way.
 try 0 answers/6km.txt plan 6km/line.csv 6km/train.toml 6km/service.csv --step 500

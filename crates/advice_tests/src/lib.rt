@@ -2,8 +2,12 @@
 #![tactic(auto)]
 
 #[cfg(test)]
+mod check_tests;
+#[cfg(test)]
 mod plan_tests;
 #[cfg(test)]
 mod route_tests;
 #[cfg(test)]
 mod runs;
+#[cfg(test)]
+mod sample_tests;

@@ -99,3 +99,11 @@ pub fn run_words_twice(alloc: Global, words: &[&str], setting: Setting) -> Resul
 {
     run_counted::<Brand>(alloc, words, setting, 2, Blank::new(1))
 }
+
+/// The advice part of a report, which stands before its certificate, and the whole of any other text.
+pub fn advice_part(text: &str) -> &str {
+    match text.split_once("certificate 1\n") {
+        Some((advice, _)) => advice,
+        None => text,
+    }
+}
