@@ -58,13 +58,22 @@ impl Regained {
     }
 }
 
-/// What braking gives back of work of this size.
+/// A size below which its product with a share fits 64 bits.
+const SHORT: u128 = 1 << 53;
+
+/// What braking gives back of work of this size. Most trains give nothing back, and most sizes are short.
 fn given_back(share: u16, size: u128) -> i128
     requires { size ≤ 2 ^ 100 }
     ensures { result ≡ pos (given_back share size) }
 {
-    let share = share.min(1000) as u128;
-    (share * size / 1000) as i128
+    if share == 0 {
+        return 0;
+    }
+    let share = share.min(1000) as u64;
+    if size < SHORT {
+        return (share * (size as u64) / 1000) as i128;
+    }
+    (share as u128 * size / 1000) as i128
 }
 
 impl StepCost for Regained {
