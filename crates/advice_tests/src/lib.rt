@@ -4,6 +4,8 @@
 #[cfg(test)]
 mod check_tests;
 #[cfg(test)]
+mod offering;
+#[cfg(test)]
 mod plan_tests;
 #[cfg(test)]
 mod route_tests;

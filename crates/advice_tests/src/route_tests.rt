@@ -1,6 +1,8 @@
 //! The command `route`.
 
-use crate::runs::{Ended, advice_part, plain, put_file, run_words, run_words_twice};
+use crate::runs::{
+    Ended, advice_part, plain, put_file, run_words, run_words_offered, run_words_twice,
+};
 use std::alloc::{AllocError, Global};
 use std::test::Fail;
 
@@ -87,6 +89,25 @@ fn routes_are_answered(rt: HostRuntime) -> Result<(), Fail> {
         assert_eq!(rt; got.status, status, "{route}");
         assert_eq!(rt; advice_part(got.text.as_str()), text, "{route}");
     }
+    Ok(())
+}
+
+/// A box that is handed to the program is asked: its offer costs less than each member of the family, and the report's drive at most as much.
+#[test]
+fn a_better_offer_is_printed(rt: HostRuntime) -> Result<(), Fail> {
+    let alloc = rt.alloc();
+    let route = route_of(alloc, 51_000, 60, &[LEVEL, LEVEL, LEVEL])?;
+    let mut setting = plain(alloc);
+    put_file(alloc, &mut setting.files, "a.route", route.as_bytes())?;
+    let got = run_words_offered(alloc, &["route", "a.route"], setting, &[0, 840, 828, 0])?;
+    let (_, behind) = got
+        .text
+        .as_str()
+        .split_once("\nenergy ")
+        .expect(&rt, "an energy");
+    let (energy, _) = behind.split_once("\n").expect(&rt, "a line behind it");
+    let energy = energy.parse::<u64>().expect(&rt, "a number");
+    assert!(rt; energy <= 7_256_000_000_000, "{energy}");
     Ok(())
 }
 

@@ -2,6 +2,7 @@
 
 ghost use Rattle.std.specs.Prelude.{◌≡◌, ◌<◌, ◌≤◌};
 
+use crate::offering::Offering;
 use advice_run::{Words, run};
 use edge_io::{MemoryShelf, MemorySink};
 use proposers::{Dips, EarlyBraking, LateCoasting, Proposer};
@@ -52,6 +53,33 @@ pub fn put_file(
     let bytes = Vec::from_slice(alloc, bytes)?;
     files.push((name, bytes))?;
     Ok(())
+}
+
+/// What a run with these words and one box leaves, which offers these speeds.
+fn run_offered<L: Ledger>(
+    alloc: Global,
+    words: &[&str],
+    setting: Setting,
+    offer: &[u16],
+    blank: Blank,
+) -> Result<Ended, AllocError>
+    requires piece { 1 ≤ setting.piece }
+    requires name { blank.name ≡ L.name }
+    requires parts { blank.parts ≡ L.parts }
+    requires some { 0 < L.parts }
+{
+    let mut list = Words::new(alloc);
+    for word in words {
+        list.push(*word)?;
+    }
+    let mut shelf = MemoryShelf::new(alloc, setting.files, setting.failing_fetches);
+    let mut sink = MemorySink::new(alloc, setting.piece, setting.room, setting.failing_puts)?;
+    let mut steps: Steps<L> = Steps::new(blank);
+    let mut boxes: Vec<Box<dyn Proposer>> = Vec::new(alloc);
+    boxes.push(Box::new(alloc, Offering::make(alloc, offer)?)?)?;
+    let status = run(alloc, &list, &mut shelf, &mut sink, boxes, &mut steps);
+    let text = String::from_utf8_lossy(alloc, sink.bytes())?;
+    Ok(Ended { status, text })
 }
 
 /// What so many runs with these words leave, one after the other over the same files and the same stream, with a counter of their own.
@@ -106,4 +134,16 @@ pub fn advice_part(text: &str) -> &str {
         Some((advice, _)) => advice,
         None => text,
     }
+}
+
+/// What a run with these words leaves, with one box that offers these speeds.
+pub fn run_words_offered(
+    alloc: Global,
+    words: &[&str],
+    setting: Setting,
+    offer: &[u16],
+) -> Result<Ended, AllocError>
+    requires { 1 ≤ setting.piece }
+{
+    run_offered::<Brand>(alloc, words, setting, offer, Blank::new(1))
 }
