@@ -25,17 +25,8 @@ use std::marker::Brand;
 use std::sync::ledger::{Blank, Ledger};
 use step_energy::Steps;
 
-/// What stands before the first 0, and what behind it.
-fn parted(text: &[u8]) -> (&[u8], &[u8]) {
-    for i in 0..text.len() {
-        if text[i] == 0 {
-            return (&text[..i], &text[i + 1..]);
-        }
-    }
-    (text, &[])
-}
 RT
-echo "$reading_rules" >>"$main"
+echo "$parting$reading_rules" >>"$main"
 cat >>"$main" <<'RT'
 /// How many bytes of the text have been read, so many times over.
 fn read_often(alloc: Global, text: &[u8], times: u32) -> Result<u32, CertFault> {

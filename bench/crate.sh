@@ -21,8 +21,8 @@ fn rules(alloc: Global, text: &[u8]) -> Option<Rules> {
 }
 '
 
-# How a program reads the rules of a line, a train and a service, whose texts are parted by a 0: behind `use` lines.
-reading_files='
+# How a program parts texts that stand behind one another, with a 0 between them: behind `use` lines.
+parting='
 /// What stands before the first 0, and what behind it.
 fn parted(text: &[u8]) -> (&[u8], &[u8]) {
     for i in 0..text.len() {
@@ -32,7 +32,10 @@ fn parted(text: &[u8]) -> (&[u8], &[u8]) {
     }
     (text, &[])
 }
+'
 
+# How a program reads the rules of a line, a train and a service, whose texts are parted by a 0: behind `use` lines.
+reading_files=$parting'
 /// The rules of the three files at a step.
 fn rules_of_files_with<L: Ledger>(alloc: Global, text: &[u8], step: u16, blank: Blank) -> Option<Rules>
     requires name { blank.name ≡ L.name }
