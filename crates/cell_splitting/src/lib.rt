@@ -13,6 +13,3 @@ pub use chosen::{Place, split_chosen};
 pub use even::split_evenly;
 pub use laws::splits_known;
 pub use rest::split_rest;
-
-#[cfg(test)]
-mod tests;

@@ -6,6 +6,3 @@ mod grid;
 
 pub use fault::GridFault;
 pub use grid::Grid;
-
-#[cfg(test)]
-mod tests;

@@ -14,6 +14,3 @@ mod search;
 mod taking;
 
 pub use taking::search_drive;
-
-#[cfg(test)]
-mod tests;

@@ -18,6 +18,3 @@ pub use part::certificate_part;
 pub use reading::{read, read_prices};
 pub use text::{Rest, after_word};
 pub use writing::{put_certificate, put_one, put_prices, write};
-
-#[cfg(test)]
-mod tests;

@@ -15,8 +15,6 @@ mod points;
 mod rows;
 mod sections;
 mod setup;
-#[cfg(test)]
-mod tests;
 mod times;
 mod timings;
 

@@ -288,6 +288,3 @@ pub fn read_line(alloc: Global, text: &[u8]) -> Result<Line, LineFault>
 {
     read_file(alloc, text)
 }
-
-#[cfg(test)]
-mod tests;

@@ -275,6 +275,3 @@ pub fn read_service(alloc: Global, text: &[u8]) -> Result<Service, ServiceFault>
 {
     read_file(alloc, text)
 }
-
-#[cfg(test)]
-mod tests;

@@ -4,5 +4,4 @@ pub mod FrontLaws
 pub mod Fronts
 pub mod Layout
 pub mod Searching
-pub mod Slopes
 pub mod Ways

@@ -20,8 +20,3 @@ pub use link_costs::{Priced, prices_for};
 pub use lower_bound::bound;
 pub use price_search::{Valued, best_price, best_valued, potentials_at};
 pub use table::Potentials;
-
-#[cfg(test)]
-mod slope_tests;
-#[cfg(test)]
-mod tests;

@@ -8,6 +8,3 @@
 mod rounds;
 
 pub use rounds::{find_prices, improve_prices};
-
-#[cfg(test)]
-mod tests;

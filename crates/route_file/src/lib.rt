@@ -52,6 +52,3 @@ pub fn read_parts<L: Ledger>(
     let parts = make_parts(alloc, &heading, lists)?;
     Ok(parts)
 }
-
-#[cfg(test)]
-mod tests;

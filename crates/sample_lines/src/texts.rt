@@ -124,6 +124,3 @@ pub fn sample(alloc: Global, n: u32) -> Result<SampleFiles, AllocError>
         service: Bytes::of(service),
     })
 }
-
-#[cfg(test)]
-mod tests;

@@ -7,6 +7,3 @@ mod laws;
 pub use bound_specs::Cell;
 pub use cells::Cells;
 pub use laws::{fitting_cells_cover, splitting_keeps_speeds, whole_cells_fit};
-
-#[cfg(test)]
-mod tests;

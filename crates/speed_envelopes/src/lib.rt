@@ -21,6 +21,3 @@ pub use greatest::{greatest_drive, greatest_from, greatest_under};
 pub use narrowings::{coasting, under_cap};
 pub use rail_specs::Narrow;
 pub use speed_ranges::Ranges;
-
-#[cfg(test)]
-mod tests;

@@ -12,6 +12,3 @@ mod choice;
 mod forward;
 
 pub use choice::{Choice, choose};
-
-#[cfg(test)]
-mod tests;

@@ -12,6 +12,3 @@ mod values;
 pub use fault::{Key, TrainFault};
 pub use read::read_train;
 pub use train::Train;
-
-#[cfg(test)]
-mod tests;

@@ -1,4 +1,0 @@
-use Rattle.joined_rules.proofs.tests.join_files.Given as goal
-
-abbrev pub ghosts-join_with : goal.ghosts-join_with
-ghosts-join_with a = record { name = a.blank.name; parts = a.blank.parts }

@@ -1,4 +1,0 @@
-use Rattle.split_choice.proofs.tests.rules.Given as goal
-
-abbrev pub ghosts-rules_with : goal.ghosts-rules_with
-ghosts-rules_with a = record { name = a.blank.name; parts = a.blank.parts }

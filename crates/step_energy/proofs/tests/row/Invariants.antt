@@ -1,4 +1,0 @@
-use Rattle.step_energy.proofs.tests.row.Given as goal
-
-abbrev pub ghosts-row_with : goal.ghosts-row_with
-ghosts-row_with a = record { name = a.blank.name; parts = a.blank.parts }
