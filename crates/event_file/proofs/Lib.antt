@@ -1,0 +1,3 @@
+pub mod CountsRead
+pub mod NameText
+pub mod LineFaults
