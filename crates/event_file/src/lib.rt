@@ -11,6 +11,3 @@ pub use event::Event;
 pub use fault::EventFault;
 pub use name::{Name, is_name};
 pub use read::read_events;
-
-#[cfg(test)]
-mod tests;

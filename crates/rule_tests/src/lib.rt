@@ -2,6 +2,8 @@
 #![tactic(auto)]
 
 #[cfg(test)]
+mod event_tests;
+#[cfg(test)]
 mod force_table_tests;
 #[cfg(test)]
 mod grid_tests;

@@ -1,8 +1,6 @@
 //! The reader of events over texts.
 
-use crate::event::Event;
-use crate::fault::EventFault;
-use crate::read::read_events;
+use event_file::{Event, EventFault, read_events};
 use std::alloc::{AllocError, Global};
 
 /// Whether an event is the one that stands at this place of the example.
