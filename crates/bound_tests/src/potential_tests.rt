@@ -4,7 +4,10 @@ ghost use Rattle.bound_specs.specs.Cells.{cells_of};
 
 use crate::routes::{TWO_STEPS, rules_of};
 use drive_rules::Rules;
-use potential_table::{Front, Potentials, Priced, bound, finer_cells_bound_more, potentials, prices_for};
+use potential_table::{
+    Front, Potentials, Priced, best_price, best_valued, bound, finer_cells_bound_more, potentials,
+    prices_for,
+};
 use rail_base::{Cell, CellCost, Traction};
 use speed_cells::Cells;
 use std::alloc::{AllocError, Global};

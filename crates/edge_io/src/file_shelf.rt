@@ -62,8 +62,8 @@ fn read_again<F: Read>(file: &mut F, block: &mut [u8]) -> io::Result<usize>
 }
 
 /// Appends what a reader gives, up to `most` bytes in all, and all of it where there is less. Each turn takes at least one byte or is
-/// the end.
-fn read_front<F: Read>(file: &mut F, most: usize, bytes: &mut Vec<u8>) -> io::Result<()>
+/// the end. Reads that are interrupted are tried again.
+pub fn read_front<F: Read>(file: &mut F, most: usize, bytes: &mut Vec<u8>) -> io::Result<()>
     requires { vec_len bytes.old ≤ most }
     ensures short { vec_len bytes.new ≤ most }
     ensures front { OnOk result (IfSome (F.remaining file.old) (λ left. bytes.new.items ≡ take most (bytes.old.items ++ left))) }
@@ -119,6 +119,3 @@ impl<'a, R: Files> Shelf for FileShelf<'a, R> {
         }
     }
 }
-
-#[cfg(test)]
-mod tests;

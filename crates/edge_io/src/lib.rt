@@ -13,7 +13,7 @@ mod out_sink;
 mod shelf;
 mod sink;
 
-pub use file_shelf::FileShelf;
+pub use file_shelf::{FileShelf, read_front};
 pub use memory_shelf::MemoryShelf;
 pub use memory_sink::MemorySink;
 pub use out_sink::OutSink;

@@ -113,6 +113,3 @@ impl Shelf for MemoryShelf {
         }
     }
 }
-
-#[cfg(test)]
-mod tests;

@@ -97,6 +97,3 @@ impl Sink for MemorySink {
         Ok(count)
     }
 }
-
-#[cfg(test)]
-mod tests;

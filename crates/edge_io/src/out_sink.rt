@@ -97,6 +97,3 @@ impl<W: Write + Drop> Sink for OutSink<W> {
         Ok(count)
     }
 }
-
-#[cfg(test)]
-mod tests;

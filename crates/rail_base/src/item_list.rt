@@ -61,6 +61,3 @@ impl<T: Copy> ItemList<T> {
         Ok(ItemList { items })
     }
 }
-
-#[cfg(test)]
-mod tests;

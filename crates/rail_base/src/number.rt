@@ -123,6 +123,3 @@ pub fn put_number(_alloc: Global, out: &mut Vec<u8>, n: i128) -> Result<(), Allo
     let mut buffer = Buffer::new();
     out.extend_from_slice(buffer.format(n).as_bytes())
 }
-
-#[cfg(test)]
-mod tests;

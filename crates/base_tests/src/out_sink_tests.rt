@@ -1,8 +1,8 @@
 //! A real stream, one that takes nothing, and one that signals interrupt.
-use super::*;
-use crate::sink::put_all;
+use edge_io::{Failed, OutSink, Sink, put_all};
 use std::fs::OpenOptions;
-use std::io::BufWriter;
+use std::io;
+use std::io::{BufWriter, ErrorKind, Write};
 use std::test::Fail;
 
 #[test]

@@ -1,6 +1,5 @@
 //! Texts put in pieces, and calls that fail.
-use super::*;
-use crate::sink::put_all;
+use edge_io::{Failed, MemorySink, Sink, put_all};
 use std::test::Fail;
 
 #[test]

@@ -1,5 +1,5 @@
 //! A list that is changed.
-use super::*;
+use rail_base::ItemList;
 use std::test::Fail;
 
 #[test]

@@ -1,5 +1,5 @@
 //! Numbers and texts that are none.
-use super::*;
+use rail_base::{natural_within, put_number, read_count, read_digits, read_field, read_number};
 use std::test::Fail;
 
 #[test]

@@ -1,6 +1,6 @@
 //! Files that are there or not, and calls that fail.
-use super::*;
-use std::alloc::AllocError;
+use edge_io::{FetchFault, MemoryShelf, Shelf};
+use std::alloc::{AllocError, Global};
 use std::test::Fail;
 
 /// A shelf with two files of one name and another file.

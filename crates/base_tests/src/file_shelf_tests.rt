@@ -1,7 +1,8 @@
 //! Files of a folder of the system, and a reader that signals interrupt.
-use super::*;
-use std::env;
+use edge_io::{FetchFault, FileShelf, Shelf, read_front};
+use std::io::{ErrorKind, Read};
 use std::test::Fail;
+use std::{env, fs, io};
 
 /// A name in the folder for files that don't stay.
 fn name_of(rt: &HostRuntime, end: &str) -> Result<String, Fail> {
