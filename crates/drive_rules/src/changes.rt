@@ -41,3 +41,6 @@ impl Rules {
         rule_changes::set_latest(&mut self.parts, point, latest)
     }
 }
+
+#[cfg(test)]
+mod tests;
