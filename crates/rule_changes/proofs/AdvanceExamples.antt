@@ -60,13 +60,15 @@ advanced-between = record {
   limits_are = refl;
   stops_are = refl;
   dwells_are = refl;
-  passed = 0;
-  are_passed = record {
-    most = omega arith;
-    passed = λ h l. absurd (omega arith);
-    ahead = λ h m l. elim (cases_eq h 0) [ inl e ↦ rw e (omega arith) | inr ne ↦ (let e : h ≡ 1 = omega arith in rw e (omega arith)) ];
+  timings_are = record {
+    count = 0;
+    passed = record {
+      most = omega arith;
+      passed = λ h l. absurd (omega arith);
+      ahead = λ h m l. elim (cases_eq h 0) [ inl e ↦ rw e (omega arith) | inr ne ↦ (let e : h ≡ 1 = omega arith in rw e (omega arith)) ];
+    };
+    rest = refl;
   };
-  timings_are = refl;
 }
 
 -- from 100 m on, where the train leaves from a standstill 100 s later: neither the stop nor its dwell nor its latest time is left
@@ -99,11 +101,13 @@ advanced-at_the_point = record {
   limits_are = refl;
   stops_are = refl;
   dwells_are = refl;
-  passed = 1;
-  are_passed = record {
-    most = omega arith;
-    passed = λ h l. (let e : h ≡ 0 = omega arith in rw e (omega arith));
-    ahead = λ h m l. (let e : h ≡ 1 = omega arith in rw e (omega arith));
+  timings_are = record {
+    count = 1;
+    passed = record {
+      most = omega arith;
+      passed = λ h l. (let e : h ≡ 0 = omega arith in rw e (omega arith));
+      ahead = λ h m l. (let e : h ≡ 1 = omega arith in rw e (omega arith));
+    };
+    rest = refl;
   };
-  timings_are = refl;
 }

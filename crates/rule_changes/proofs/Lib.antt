@@ -1,1 +1,3 @@
+pub mod AdvanceLists
+pub mod AdvanceShaped
 mod AdvanceExamples

@@ -24,6 +24,13 @@ pub record ArePassed (timings : List Timing) (k count : ℕ) : Type 0 where
 abbrev pub timing_from : ℕ → ℤ → Timing → Timing
 timing_from k later t = record { point = t.point - k; latest = t.latest -ℤ later }
 
+-- the timing points behind point k, as they are from a start there on, so many ms later
+pub record AreTimingsFrom (old : List Timing) (k : ℕ) (later : ℤ) (new : List Timing) : Type 0 where
+  -- how many of the old ones are passed
+  pub count : ℕ
+  pub passed : ArePassed old k count
+  pub rest : new ≡ map (timing_from k later) (drop count old)
+
 -- the rules as they are from a later place and another speed on, so many ms later: the step in which the place lies is shortened to what is
 -- left of it, the point at its start stands at the place and is neither a stop nor a timing point, and what lies behind stays. Of the limits
 -- it says no more than that there is one for each step
@@ -41,10 +48,7 @@ pub record IsAdvanced (old : Rules) (place speed : ℕ) (later : ℤ) (new : Rul
   pub limits_are : length new.limits ≡ length new.steps
   pub stops_are : new.stops ≡ false ∷ drop (last + 1) old.stops
   pub dwells_are : new.dwells ≡ 0 ∷ drop (last + 1) old.dwells
-  -- how many of the old timing points are passed
-  pub passed : ℕ
-  pub are_passed : ArePassed old.timings last passed
-  pub timings_are : new.timings ≡ map (timing_from last later) (drop passed old.timings)
+  pub timings_are : AreTimingsFrom old.timings last later new.timings
 
 -- one step is counted where the place isn't one of the grid's, and none where it is
 pub record CountsFirst (places : List ℕ) (place old new : ℕ) : Type 0 where
