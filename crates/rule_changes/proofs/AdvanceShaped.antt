@@ -12,9 +12,12 @@ use Rattle.rail_specs.specs.declared.Timing.{Timing}
 use Rattle.rail_specs.specs.Rules.{Rules, IsPassed, is_stop, step_at, no_step, no_timing}
 use Rattle.rail_specs.specs.Step.{IsInRange, HasSmallDrag}
 use Rattle.rail_specs.specs.Table.{IsForceTable}
+use Rattle.line_file.specs.declared.line.Line.{Line}
 use Rattle.rule_parts.specs.Shaped.{IsShaped, Rises}
 use Rattle.joined_rules.proofs.JoinedRising.{timings_rise, places_order, places_not_above}
 use Rattle.rule_changes.specs.Advance.{IsAdvanced, IsLastAt, IsNoStopNext, AreTimingsFrom, StayInRange, shortened}
+use Rattle.rule_changes.specs.Limits.{IsOnLine}
+use Rattle.rule_changes.proofs.LimitsKept.{places_rise}
 use Rattle.rule_changes.proofs.AdvanceLists.{same_at, left_count, left_first, left_later, timed_count, timed_at}
 
 -- what is left of a step is in range, and its drag is small
@@ -24,14 +27,8 @@ left_in_range n metres h some within = record { train = h.train; metres = (some,
 pub left_light : (n : StepNumbers) (metres : ℕ) → HasSmallDrag n → metres ≤ n.metres → HasSmallDrag (shortened n metres)
 left_light n metres h within = omega (arith, h, mul-le-mul_left n.c within)
 
--- the points rise
-pub points_rise : (r : Rules) → IsShaped r → (k : ℕ) → k + 1 < length r.places → get_or r.places k 0 < get_or r.places (k + 1) 0
-points_rise r s k l =
-    let inside : k < length r.steps = omega (arith, l, s.places) in
-    omega (arith, s.metres k inside, (s.numbers k inside).metres.0)
-
 -- where the steps, the points and the timing points of the new rules come from in the old ones
-pub record ComesFrom (old : Rules) (place : ℕ) (later : ℤ) (new : Rules) (k : ℕ) : Type 0 where
+pub record ComesFrom (old : Rules) (place : ℕ) (new : Rules) (k : ℕ) : Type 0 where
   pub inside : k < length old.steps
   pub at : get_or old.places k 0 ≤ place
   pub below : place < get_or old.places (k + 1) 0
@@ -51,7 +48,7 @@ pub record ComesFrom (old : Rules) (place : ℕ) (later : ℤ) (new : Rules) (k 
   pub some_left : 1 ≤ get_or old.places (k + 1) 0 - place
   pub part_left : get_or old.places (k + 1) 0 - place ≤ (step_at old k).metres
 
-pub comes_from : (old new : Rules) (place speed : ℕ) (later : ℤ) → IsShaped old → (a : IsAdvanced old place speed later new) → ComesFrom old place later new a.last
+pub comes_from : (old new : Rules) (place speed : ℕ) (later : ℤ) → IsShaped old → (a : IsAdvanced old place speed later new) → ComesFrom old place new a.last
 comes_from old new place speed later s a =
     let k : ℕ = a.last in
     let inside : k < length old.steps = omega (arith, a.last_is.there, s.places) in
@@ -81,44 +78,44 @@ comes_from old new place speed later s a =
 by_first : (P : ℕ → Type 0) (i : ℕ) → P 0 → (1 ≤ i → P i) → P i
 by_first P i first more = elim (cases_eq i 0) [ inl e ↦ subst P (sym e) first | inr ne ↦ more (omega arith) ]
 
-numbers_in_range : (old new : Rules) (place : ℕ) (later : ℤ) (k : ℕ) → IsShaped old → ComesFrom old place later new k → (i : ℕ) → i < length new.steps → IsInRange (step_at new i)
-numbers_in_range old new place later k s f i l = by_first (λ (j : ℕ). IsInRange (step_at new j)) i
+numbers_in_range : (old new : Rules) (place : ℕ) (k : ℕ) → IsShaped old → ComesFrom old place new k → (i : ℕ) → i < length new.steps → IsInRange (step_at new i)
+numbers_in_range old new place k s f i l = by_first (λ (j : ℕ). IsInRange (step_at new j)) i
     (subst IsInRange (sym f.step_first) (left_in_range (step_at old k) (get_or old.places (k + 1) 0 - place) (s.numbers k f.inside) f.some_left f.part_left))
     (λ m. subst IsInRange (sym (f.step_later i m)) (s.numbers (k + i) (omega (arith, l, f.step_count))))
 
-all_light : (old new : Rules) (place : ℕ) (later : ℤ) (k : ℕ) → IsShaped old → ComesFrom old place later new k → (i : ℕ) → i < length new.steps → HasSmallDrag (step_at new i)
-all_light old new place later k s f i l = by_first (λ (j : ℕ). HasSmallDrag (step_at new j)) i
+all_light : (old new : Rules) (place : ℕ) (k : ℕ) → IsShaped old → ComesFrom old place new k → (i : ℕ) → i < length new.steps → HasSmallDrag (step_at new i)
+all_light old new place k s f i l = by_first (λ (j : ℕ). HasSmallDrag (step_at new j)) i
     (subst (λ (n : StepNumbers). HasSmallDrag n) (sym f.step_first) (left_light (step_at old k) (get_or old.places (k + 1) 0 - place) (s.small_drag k f.inside) f.part_left))
     (λ m. subst (λ (n : StepNumbers). HasSmallDrag n) (sym (f.step_later i m)) (s.small_drag (k + i) (omega (arith, l, f.step_count))))
 
-all_far : (old new : Rules) (place : ℕ) (later : ℤ) (k : ℕ) → IsShaped old → ComesFrom old place later new k → (i : ℕ) → get_or new.places i 0 ≤ 4000000
-all_far old new place later k s f i = by_first (λ (j : ℕ). get_or new.places j 0 ≤ 4000000) i
+all_far : (old new : Rules) (place : ℕ) (k : ℕ) → IsShaped old → ComesFrom old place new k → (i : ℕ) → get_or new.places i 0 ≤ 4000000
+all_far old new place k s f i = by_first (λ (j : ℕ). get_or new.places j 0 ≤ 4000000) i
     (omega (arith, f.place_first, f.below, s.far (k + 1)))
     (λ m. omega (arith, f.place_later i m, s.far (k + i)))
 
-all_short : (old new : Rules) (place : ℕ) (later : ℤ) (k : ℕ) → IsShaped old → ComesFrom old place later new k → (i : ℕ) → get_or new.dwells i 0 ≤ 7200000
-all_short old new place later k s f i = by_first (λ (j : ℕ). get_or new.dwells j 0 ≤ 7200000) i
+all_short : (old new : Rules) (place : ℕ) (k : ℕ) → IsShaped old → ComesFrom old place new k → (i : ℕ) → get_or new.dwells i 0 ≤ 7200000
+all_short old new place k s f i = by_first (λ (j : ℕ). get_or new.dwells j 0 ≤ 7200000) i
     (omega (arith, f.dwell_first))
     (λ m. omega (arith, f.dwell_later i m, s.short_dwells (k + i)))
 
 -- each place is a step's length behind the one before
-pub metres_apart : (old new : Rules) (place : ℕ) (later : ℤ) (k : ℕ) → IsShaped old → ComesFrom old place later new k → (i : ℕ) → i < length new.steps →
+pub metres_apart : (old new : Rules) (place : ℕ) (k : ℕ) → IsShaped old → ComesFrom old place new k → (i : ℕ) → i < length new.steps →
     get_or new.places (i + 1) 0 ≡ get_or new.places i 0 + (step_at new i).metres
-metres_apart old new place later k s f i l = by_first (λ (j : ℕ). get_or new.places (j + 1) 0 ≡ get_or new.places j 0 + (step_at new j).metres) i
+metres_apart old new place k s f i l = by_first (λ (j : ℕ). get_or new.places (j + 1) 0 ≡ get_or new.places j 0 + (step_at new j).metres) i
     (let m : (step_at new 0).metres ≡ get_or old.places (k + 1) 0 - place = ap (λ (n : StepNumbers). n.metres) f.step_first in
     omega (arith, m, f.place_first, f.place_later 1 (omega arith), f.below))
     (λ m. let metres : (step_at new i).metres ≡ (step_at old (k + i)).metres = ap (λ (n : StepNumbers). n.metres) (f.step_later i m) in
     let next : get_or new.places (i + 1) 0 ≡ get_or old.places (k + i + 1) 0 = f.place_later (i + 1) (omega arith) ∙ same_at old.places (k + (i + 1)) (k + i + 1) 0 (omega arith) in
     omega (arith, metres, next, f.place_later i m, s.metres (k + i) (omega (arith, l, f.step_count))))
 
-stops_last : (old new : Rules) (place : ℕ) (later : ℤ) (k : ℕ) → IsShaped old → ComesFrom old place later new k → is_stop new (length new.steps) ≡ true
-stops_last old new place later k s f =
+stops_last : (old new : Rules) (place : ℕ) (k : ℕ) → IsShaped old → ComesFrom old place new k → is_stop new (length new.steps) ≡ true
+stops_last old new place k s f =
     f.stop_later (length new.steps) (omega (arith, f.step_count, f.inside)) ∙ same_at old.stops (k + length new.steps) (length old.steps) false (omega (arith, f.step_count)) ∙ s.last_stop
 
 -- no step begins and ends at a standstill
-moving : (old new : Rules) (place : ℕ) (later : ℤ) (k : ℕ) → IsShaped old → ComesFrom old place later new k → (new.start ≡ 0 → is_stop old (k + 1) ≡ false) →
+moving : (old new : Rules) (place : ℕ) (k : ℕ) → IsShaped old → ComesFrom old place new k → (new.start ≡ 0 → is_stop old (k + 1) ≡ false) →
     (i v0 v1 : ℕ) → i < length new.steps → (i ≡ 0 → v0 ≡ new.start) → (1 ≤ i → IsPassed new i v0) → IsPassed new (i + 1) v1 → 1 ≤ v0 + v1
-moving old new place later k s f next i v0 v1 l first entry exit = elim (cases_eq i 0) [
+moving old new place k s f next i v0 v1 l first entry exit = elim (cases_eq i 0) [
   | inl e ↦ elim (cases_eq new.start 0) [
     | inl stands ↦ (let stop : is_stop new (i + 1) ≡ false = same_at new.stops (i + 1) 1 false (omega (arith, e)) ∙ f.stop_later 1 (omega arith) ∙ next stands in
         let fast : 1 ≤ v1 = subst (λ (b : Bool). MatchBool b (v1 ≡ 0) (1 ≤ v1)) stop exit in omega (arith, fast))
@@ -191,25 +188,25 @@ advanced_shaped old new place speed later s a slow next span stay low =
       traction = subst (λ (xs : List ℕ). IsForceTable xs) (sym a.traction_is) s.traction;
       brake = subst (λ (xs : List ℕ). IsForceTable xs) (sym a.brake_is) s.brake;
       short_train = omega (arith, a.length_is, s.short_train);
-      numbers = numbers_in_range old new place later k s f;
-      small_drag = all_light old new place later k s f;
+      numbers = numbers_in_range old new place k s f;
+      small_drag = all_light old new place k s f;
       limits = a.limits_are;
       low_limits = low;
       places = f.place_count;
-      far = all_far old new place later k s f;
-      metres = metres_apart old new place later k s f;
+      far = all_far old new place k s f;
+      metres = metres_apart old new place k s f;
       stops = f.stop_count;
-      last_stop = stops_last old new place later k s f;
+      last_stop = stops_last old new place k s f;
       dwells = f.dwell_count;
       first_dwell = f.dwell_first;
-      short_dwells = all_short old new place later k s f;
+      short_dwells = all_short old new place k s f;
       some_timings = some;
       few_timings = omega (arith, s.few_timings, timed_count old.timings new.timings k later a.timings_are);
       rising = rises_on old.timings new.timings k later s.rising a.timings_are;
       timings = All-from_get_or (λ t. (1 ≤ t.point) × (t.point ≤ length new.steps) × (unsigned_abs t.latest ≤ 172800000)) new.timings no_timing
           (timed_in old.timings new.timings k n m later s.timings f.step_count span stay a.timings_are);
       last_timing = last_ahead old.timings new.timings k n m later some s.last_timing f.step_count a.timings_are;
-      moving = moving old new place later k s f (λ stands. next (sym a.start_is ∙ stands) k a.last_is);
+      moving = moving old new place k s f (λ stands. next (sym a.start_is ∙ stands) k a.last_is);
     }
 
 -- ---- the first row
@@ -218,7 +215,7 @@ advanced_shaped old new place speed later s a slow next span stay low =
 pub whole_step : (old : Rules) (place k : ℕ) → IsShaped old → IsLastAt old.places place k → Contains old.places place → get_or old.places (k + 1) 0 - place ≡ (step_at old k).metres
 whole_step old place k s last (i, l, e) =
     let inside : k < length old.steps = omega (arith, last.there, s.places) in
-    let rising = points_rise old s in
+    let rising = places_rise old s in
     let same : get_or old.places i 0 ≡ place = get_or_default old.places i 0 place l ∙ e in
     let not_later : i < k + 1 = places_order old.places rising i (k + 1) l (omega (arith, same, last.below)) in
     let at : place ≤ get_or old.places k 0 = omega (arith, same, places_not_above old.places rising i k (omega (arith, not_later)) (omega (arith, last.there))) in
@@ -232,3 +229,16 @@ part_of_step old place k s last other =
       | inl b ↦ omega (arith, b, last.below, s.metres k inside)
       | inr at ↦ (let same : get_or old.places k 0 ≡ place = omega (arith, at, last.at) in absurd (other (k, here, get_or_default old.places k place 0 here ∙ same)))
     ]
+
+-- ---- the line
+
+pub stays_on_line : (line : Line) (old new : Rules) (place : ℕ) (k : ℕ) → IsShaped old → IsOnLine line old → ComesFrom old place new k → IsOnLine line new
+stays_on_line line old new place k s on f i l = elim (cases_eq i 0) [
+  | inl e ↦ (let first : get_or new.places i 0 ≡ place = same_at new.places i 0 0 e ∙ f.place_first in
+      let before = on k (omega (arith, f.inside, s.places)) in
+      let behind = on (k + 1) (omega (arith, f.inside, s.places)) in
+      (omega (arith, first, before.0, f.at), omega (arith, first, behind.1, f.below)))
+  | inr ne ↦ (let here = f.place_later i (omega (arith, ne)) in
+      let old_on = on (k + i) (omega (arith, l, f.place_count, f.step_count, s.places)) in
+      (omega (arith, here, old_on.0), omega (arith, here, old_on.1)))
+]

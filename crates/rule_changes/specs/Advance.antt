@@ -1,8 +1,15 @@
 -- The rules of a run whose train has come further: what is left of them from a later place on.
-use Rattle.std.specs.Prelude.{ℕ, ◌+◌, ◌-◌, ◌<◌, ◌≤◌, ◌≡◌, ℤ, negsuc, ◌-ℤ◌, ◌≤ℤ◌, false, List, ◌∷◌, Contains, length, map, drop, slice_index, slice_index_or}
+use Rattle.std.specs.Prelude.{ℕ, ◌+◌, ◌-◌, ◌<◌, ◌≤◌, ◌≡◌, ◌*◌, ℤ, pos, negsuc, ◌-ℤ◌, ◌≤ℤ◌, false, List, ◌∷◌, Contains, length, map, drop, slice_index, slice_index_or}
 use Rattle.rail_specs.specs.declared.StepNumbers.{StepNumbers}
 use Rattle.rail_specs.specs.declared.Timing.{Timing}
 use Rattle.rail_specs.specs.Rules.{Rules, is_stop, step_at, no_timing}
+use Rattle.line_file.specs.declared.line.Line.{Line}
+use Rattle.line_file.specs.declared.service.Service.{Service}
+use Rattle.line_file.specs.Shape.{IsService}
+use Rattle.train_file.specs.declared.train.Train.{Train}
+use Rattle.joined_rules.specs.declared.setup.Stretch.{Stretch}
+use Rattle.joined_rules.specs.declared.setup.Setup.{Setup}
+use Rattle.joined_rules.specs.Joined.{Joins}
 
 -- point k is the last whose place is at most this one, and isn't the last of all
 pub record IsLastAt (places : List ℕ) (place k : ℕ) : Type 0 where
@@ -62,3 +69,17 @@ IsNoStopNext r place speed = speed ≡ 0 → (k : ℕ) → IsLastAt r.places pla
 -- no latest time falls below 48 hours before the start where all fall by so many ms
 abbrev pub StayInRange : List Timing → ℤ → Type 0
 StayInRange timings later = (h : ℕ) → h < length timings → negsuc 172799999 ≤ℤ ((slice_index_or timings h no_timing).latest -ℤ later)
+
+-- from where a train goes on that has come further
+abbrev pub setup_at : Setup → ℕ → ℕ → ℕ → List Stretch → Setup
+setup_at setup place speed clock stretches = record { step = setup.step; place = place; speed = speed; clock = clock; stretches = stretches }
+
+-- so many ms pass from one clock to another, both in s
+abbrev pub IsLater : ℕ → ℕ → ℤ → Type 0
+IsLater from to later = later ≡ pos (1000 * to) -ℤ pos (1000 * from)
+
+-- where the old rules are those of a train that keeps to a service from a setup on, the new ones are those of the same train and service
+-- from the new place, speed and clock on, under these stretches
+abbrev pub GoesOnJoined : Line → List Stretch → ℕ → ℕ → ℤ → Rules → Rules → Type 0
+GoesOnJoined line stretches place speed later old new = (train : Train) (service : Service) (setup : Setup) (clock : ℕ) → IsService service →
+    Joins line train service setup old → IsLater setup.clock clock later → Joins line train service (setup_at setup place speed clock stretches) new

@@ -3,9 +3,14 @@
 ghost use Rattle.std.specs.Prelude.{◌≡◌, ℕ, ◌+◌, ◌-◌, ◌<◌, ◌≤◌, pos, ◌≤ℤ◌, ◌∷◌, drop, map, length, slice_index, slice_index_or};
 ghost use Rattle.std.specs.Int.RustNames.{unsigned_abs};
 ghost use Rattle.rail_specs.specs.Rules.{no_timing};
+ghost use Rattle.line_file.specs.Shape.{IsLine};
 ghost use Rattle.rule_parts.specs.Shaped.{rules_of, IsShaped, Rises};
-ghost use Rattle.rule_changes.specs.Advance.{IsAdvanced, IsLastAt, IsNoStopNext, ArePassed, AreTimingsFrom, CountsFirst, StayInRange, shortened, timing_from};
+ghost use Rattle.rule_changes.specs.Advance.{IsAdvanced, IsLastAt, IsNoStopNext, ArePassed, AreTimingsFrom, CountsFirst, StayInRange, shortened, timing_from, GoesOnJoined};
+ghost use Rattle.rule_changes.specs.Limits.{AreStretches, HasLeastLimits, IsOnLine};
 
+use crate::limits::set_limits;
+use joined_rules::Stretch;
+use line_file::Line;
 use rail_specs::{StepNumbers, Timing};
 use rule_parts::Parts;
 use std::sync::ledger::Ledger;
@@ -103,7 +108,7 @@ fn leave_behind(timings: &mut Vec<Timing>, k: u32, later: i64)
 ///
 /// Where the place isn't one of the grid's, the row of the step in which it lies is made anew, with the length that is left, and counted;
 /// its drag is small since its length falls.
-pub fn advance_places<L: Ledger>(
+fn advance_places<L: Ledger>(
     parts: &mut Parts,
     place: u32,
     speed: u16,
@@ -131,4 +136,39 @@ pub fn advance_places<L: Ledger>(
     begin_at(&mut parts.dwells, last, 0);
     leave_behind(&mut parts.timings, last as u32, later);
     parts.start = speed;
+}
+
+/// Makes a place the start, and a speed the start speed, so many ms later. The grid is the place and the old places above it. At the start
+/// there is neither a stop nor a dwell nor a latest time; all latest times fall by so many ms, and what lies behind the place stays. Each
+/// step's limit is the least of the line's sections and of the stretches that meet the train there. It takes no memory.
+///
+/// Where the place isn't one of the grid's, the row of the step in which it lies is made anew, with the length that is left, and counted;
+/// its drag is small since its length falls.
+pub fn advance_to<L: Ledger>(
+    parts: &mut Parts,
+    line: &Line,
+    stretches: &[Stretch],
+    place: u32,
+    speed: u16,
+    later: i64,
+    steps: &mut Steps<L>,
+)
+    requires shaped { IsShaped (rules_of parts.old) }
+    requires line { IsLine line.now }
+    requires stretches { AreStretches stretches.now }
+    requires on_line { IsOnLine line.now (rules_of parts.old) }
+    requires begun { slice_index parts.old.places.items 0 ≤ place }
+    requires ends { place < slice_index parts.old.places.items (length parts.old.rows.items) }
+    requires speed { speed ≤ 12000 }
+    requires moves { IsNoStopNext (rules_of parts.old) place speed }
+    requires later { (pos 0 ≤ℤ later) × (later ≤ℤ pos 172800000) }
+    requires in_range { StayInRange parts.old.timings.items later }
+    ensures advanced { IsAdvanced (rules_of parts.old) place speed later (rules_of parts.new) }
+    ensures limited { HasLeastLimits line.now stretches.now (rules_of parts.new) }
+    ensures joined { GoesOnJoined line.now stretches.now place speed later (rules_of parts.old) (rules_of parts.new) }
+    ensures shaped { IsShaped (rules_of parts.new) }
+    ensures counted { CountsFirst parts.old.places.items place steps.old steps.new }
+{
+    advance_places(parts, place, speed, later, steps);
+    set_limits(parts, line, stretches);
 }
