@@ -1,5 +1,5 @@
 -- The steps of joined rules, from the values of their sections.
-use Rattle.std.proofs.Common.{ℕ, ℤ, ◌≡◌, ◌<◌, ◌≤◌, ◌≤ℤ◌, ◌+◌, ◌-◌, ◌∙◌, List, length, get_or, subst, sym, ap, arith, inl, inr, pos, zero, suc, refl}
+use Rattle.std.proofs.Common.{ℕ, ℤ, ◌≡◌, ◌<◌, ◌≤◌, ◌≤ℤ◌, ◌+◌, ◌-◌, ◌∙◌, ◌⊎◌, List, [], length, get_or, subst, sym, ap, arith, inl, inr, pos, zero, suc, refl}
 use Rattle.std.proofs.lemmas.Int.{ints}
 use Rattle.std.proofs.lemmas.Bool.{cases_lt, cases_eq}
 use Rattle.rail_specs.specs.declared.StepNumbers.{StepNumbers}
@@ -11,8 +11,8 @@ use Rattle.line_file.specs.Shape.{section_at, AreSections}
 use Rattle.train_file.specs.declared.train.Train.{Train}
 use Rattle.train_file.specs.Shape.{numbers_of}
 use Rattle.joined_rules.specs.declared.setup.Stretch.{Stretch}
-use Rattle.joined_rules.specs.Joined.{LiesIn, IsLeastLimit, IsStepOf}
-use Rattle.joined_rules.specs.JoinedParts.{AreCut, AreRows, AreValues, IsFirstUnder, IsLeastFrom, IsLowered, Rising}
+use Rattle.joined_rules.specs.Joined.{stretch_at, LiesIn, MeetsSection, MeetsStretch, IsLeastLimit, IsStepOf}
+use Rattle.joined_rules.specs.JoinedParts.{AreRows, AreValues, Follow, IsFirstUnder, IsLeastFrom, IsLowered, LieAlong, Rising}
 use Rattle.joined_rules.proofs.JoinedRising.{places_not_above}
 
 -- a section begins at or above the end of each earlier one
@@ -40,31 +40,66 @@ ends_rise low high sections h i j l m = elim (cases_lt i j) [
 ]
 
 -- the first section that the tail hasn't left begins at or behind the head
-pub first_begun : (sections : List Section) (places : List ℕ) (metres i k : ℕ) → AreCut sections places → i < length places → IsFirstUnder sections metres (get_or places i 0) k →
+pub first_begun : (sections : List Section) (places : List ℕ) (metres i k : ℕ) → Follow sections → LieAlong sections places → i < length places → IsFirstUnder sections metres (get_or places i 0) k →
     (section_at sections k).from ≤ get_or places i 0
-first_begun sections places metres i k cut l first = elim (cases_eq k 0) [
+first_begun sections places metres i k follow along l first = elim (cases_eq k 0) [
   | inl e ↦ (let same : (section_at sections k).from ≡ first_from sections = ap (λ (j : ℕ). (section_at sections j).from) e in
-      omega (arith, same, cut.begun, places_not_above places cut.rising 0 i (omega arith) l))
+      omega (arith, same, along.begun, places_not_above places along.rising 0 i (omega arith) l))
   | inr ne ↦ (let at : k - 1 + 1 ≡ k = omega (arith, ne) in
-      let from : (section_at sections k).from ≡ (section_at sections (k - 1)).to = subst (λ (j : ℕ). (section_at sections j).from ≡ (section_at sections (k - 1)).to) at (cut.follow (k - 1) (omega (arith, first.there, ne))) in
+      let from : (section_at sections k).from ≡ (section_at sections (k - 1)).to = subst (λ (j : ℕ). (section_at sections j).from ≡ (section_at sections (k - 1)).to) at (follow (k - 1) (omega (arith, first.there, ne))) in
       omega (arith, from, first.behind (k - 1) (omega (arith, ne))))
 ]
 
--- the least limit of a step
-pub least : (sections : List Section) (stretches : List Stretch) (metres s e k b v : ℕ) → AreSections (pos 1) (pos 12000) sections →
-    IsFirstUnder sections metres s k → IsLeastFrom sections k e b → IsLowered stretches metres s e b v → IsLeastLimit sections stretches metres s e v
-least sections stretches metres s e k b v h first from lowered = record {
+-- the least limit of a step with no stretch
+pub least : (sections : List Section) (metres s e k v : ℕ) → AreSections (pos 1) (pos 12000) sections →
+    IsFirstUnder sections metres s k → IsLeastFrom sections k e v → IsLeastLimit sections [] metres s e v
+least sections metres s e k v h first from = record {
   of_sections = λ j l m.
       let after : k ≤ j = elim (cases_lt j k) [ inl early ↦ absurd (omega (arith, first.behind j early, m.1)) | inr g ↦ g ] in
-      omega (arith, ints, lowered.below, from.below j after l m.0);
-  of_stretches = lowered.each;
+      from.below j after l m.0;
+  of_stretches = λ j l m. absurd (omega (arith, l));
+  reached =
+      let j = from.reached.0 in
+      let out : (section_at sections k).to ≤ (section_at sections j).to = ends_rise (pos 1) (pos 12000) sections h k j from.reached.1 from.reached.2 in
+      inl (j, from.reached.2, (from.reached.3, omega (arith, first.under, out)), from.reached.4);
+}
+
+-- v is the least limit of the sections and of the first n stretches that meet a train of so many metres on the step from s to e
+pub record IsLeastOf (sections : List Section) (stretches : List Stretch) (n metres s e v : ℕ) : Type 0 where
+  pub of_sections : (k : ℕ) → k < length sections → MeetsSection metres (section_at sections k) s e → pos v ≤ℤ (section_at sections k).value
+  pub of_stretches : (k : ℕ) → k < n → MeetsStretch metres (stretch_at stretches k) s e → v ≤ (stretch_at stretches k).limit
+  pub reached :
+      ((k : ℕ) × (k < length sections) × MeetsSection metres (section_at sections k) s e × (pos v ≡ (section_at sections k).value))
+      ⊎ ((k : ℕ) × (k < n) × MeetsStretch metres (stretch_at stretches k) s e × (v ≡ (stretch_at stretches k).limit))
+
+pub none_lowered : (sections : List Section) (stretches : List Stretch) (metres s e v : ℕ) → IsLeastLimit sections [] metres s e v → IsLeastOf sections stretches 0 metres s e v
+none_lowered sections stretches metres s e v h = record {
+  of_sections = h.of_sections;
+  of_stretches = λ k l m. absurd (omega (arith, l));
+  reached = elim h.reached [ inl is ↦ inl is | inr (k, l, m, at) ↦ absurd (omega (arith, l)) ];
+}
+
+pub one_lowered : (sections : List Section) (stretches : List Stretch) (n metres s e b v : ℕ) →
+    IsLeastOf sections stretches n metres s e b → IsLowered (stretch_at stretches n) metres s e b v → IsLeastOf sections stretches (n + 1) metres s e v
+one_lowered sections stretches n metres s e b v h lowered = record {
+  of_sections = λ k l m. omega (arith, ints, lowered.below, h.of_sections k l m);
+  of_stretches = λ k l m. elim (cases_lt k n) [
+    | inl early ↦ omega (arith, lowered.below, h.of_stretches k early m)
+    | inr g ↦ (let same : k ≡ n = omega (arith, l, g) in
+        let under : v ≤ (stretch_at stretches n).limit = lowered.under (subst (λ (j : ℕ). MeetsStretch metres (stretch_at stretches j) s e) same m) in
+        subst (λ (j : ℕ). v ≤ (stretch_at stretches j).limit) (sym same) under)
+  ];
   reached = elim lowered.reached [
-    | inl is ↦ (let j = from.reached.0 in
-        let out : (section_at sections k).to ≤ (section_at sections j).to = ends_rise (pos 1) (pos 12000) sections h k j from.reached.1 from.reached.2 in
-        inl (j, from.reached.2, (from.reached.3, omega (arith, first.under, out)), ap (λ (n : ℕ). pos n) is ∙ from.reached.4))
-    | inr other ↦ inr other
+    | inl is ↦ elim h.reached [
+      | inl (k, l, m, at) ↦ inl (k, l, m, ap (λ (n : ℕ). pos n) is ∙ at)
+      | inr (k, l, m, at) ↦ inr (k, omega (arith, l), m, is ∙ at)
+    ]
+    | inr (m, at) ↦ inr (n, omega arith, m, at)
   ];
 }
+
+pub all_lowered : (sections : List Section) (stretches : List Stretch) (metres s e v : ℕ) → IsLeastOf sections stretches (length stretches) metres s e v → IsLeastLimit sections stretches metres s e v
+all_lowered sections stretches metres s e v h = record { of_sections = h.of_sections; of_stretches = h.of_stretches; reached = h.reached }
 
 -- a section's value is in the sections' range
 pub value_low : (low high : ℤ) (sections : List Section) → AreSections low high sections → (s e : ℕ) (v : ℤ) → LiesIn sections s e v → low ≤ℤ v

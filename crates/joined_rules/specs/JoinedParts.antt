@@ -21,7 +21,7 @@ use Rattle.joined_rules.specs.declared.setup.Setup.{Setup}
 use Rattle.joined_rules.specs.declared.layout.Layout.{Layout}
 use Rattle.joined_rules.specs.declared.course.Course.{Course}
 use Rattle.joined_rules.specs.declared.times.Times.{Times}
-use Rattle.joined_rules.specs.Joined.{stretch_at, MeetsStretch, LiesIn, IsCallAt, IsTooGreat, IsFirst, IsAccepted, IsStepOf, IsLeastLimit, IsTooClose, is_stop_call, dwell_of, AreTimings, marks_of, last_place}
+use Rattle.joined_rules.specs.Joined.{MeetsStretch, LiesIn, IsCallAt, IsTooGreat, IsFirst, IsAccepted, IsStepOf, IsLeastLimit, IsTooClose, is_stop_call, dwell_of, AreTimings, marks_of, last_place}
 
 -- each place lies above the one before it
 abbrev pub Rising : List ℕ → Type 0
@@ -48,11 +48,18 @@ pub record AreValues (sections : List Section) (places : List ℕ) (values : Lis
   pub each : (i : ℕ) → i < length values →
       LiesIn sections (slice_index places i) (slice_index places (i + 1)) (slice_index_or values i (pos 0))
 
--- v is the least of a limit and of the limits of the stretches that meet a train of so many metres on the step from s to e
-pub record IsLowered (stretches : List Stretch) (metres s e limit v : ℕ) : Type 0 where
+-- the places rise along the sections, from where these begin to where they end
+pub record LieAlong (sections : List Section) (places : List ℕ) : Type 0 where
+  pub some : 0 < length sections
+  pub rising : Rising places
+  pub begun : first_from sections ≤ slice_index places 0
+  pub ended : (i : ℕ) → i + 1 < length places → slice_index places i < last_to sections
+
+-- v is the least of a limit and, where a stretch meets a train of so many metres on the step from s to e, of that of the stretch
+pub record IsLowered (stretch : Stretch) (metres s e limit v : ℕ) : Type 0 where
   pub below : v ≤ limit
-  pub each : (k : ℕ) → k < length stretches → MeetsStretch metres (stretch_at stretches k) s e → v ≤ (stretch_at stretches k).limit
-  pub reached : (v ≡ limit) ⊎ ((k : ℕ) × (k < length stretches) × MeetsStretch metres (stretch_at stretches k) s e × (v ≡ (stretch_at stretches k).limit))
+  pub under : MeetsStretch metres stretch s e → v ≤ stretch.limit
+  pub reached : (v ≡ limit) ⊎ (MeetsStretch metres stretch s e × (v ≡ stretch.limit))
 
 -- v is the least limit of the sections from that of index first on that begin before the end of a step
 pub record IsLeastFrom (sections : List Section) (first e v : ℕ) : Type 0 where

@@ -27,6 +27,7 @@ pub use fault::RulesFault;
 use force_table::SpeedTable;
 use line_file::{Line, Service};
 use rule_parts::Parts;
+pub use sections::set_step_limits;
 pub use setup::{Setup, Stretch, StretchList};
 use std::alloc::Global;
 use std::sync::ledger::Ledger;

@@ -1,9 +1,9 @@
 //! What the sections of a line and the stretches say of each step.
 
-ghost use Rattle.std.specs.Prelude.{◌≡◌, ◌+◌, ◌<◌, ◌≤◌, ◌⊎◌, ℕ, pos, ◌≤ℤ◌, length, IfOk};
+ghost use Rattle.std.specs.Prelude.{◌≡◌, ◌+◌, ◌<◌, ◌≤◌, ◌⊎◌, ℕ, pos, ◌≤ℤ◌, [], length, slice_index, IfOk};
 ghost use Rattle.line_file.specs.LineText.{last_to};
 ghost use Rattle.line_file.specs.Shape.{section_at, AreSections};
-ghost use Rattle.joined_rules.specs.JoinedParts.{Follow, AreCut, AreValues, AreLimits, IsFirstUnder, IsLeastFrom, IsLowered};
+ghost use Rattle.joined_rules.specs.JoinedParts.{Follow, AreCut, AreValues, AreLimits, IsFirstUnder, IsLeastFrom, IsLowered, LieAlong, Rising};
 
 use crate::setup::Stretch;
 use line_file::Section;
@@ -97,22 +97,71 @@ fn least_from(sections: &[Section], first: usize, end: u32) -> u16
     least
 }
 
-/// A limit, lowered by the stretches that meet a train of so many metres on the step from `start` to `end`.
-fn lowered(limit: u16, stretches: &[Stretch], metres: u32, start: u32, end: u32) -> u16
-    ensures { IsLowered stretches.now metres start end limit result }
+/// Sets each limit to the least limit of the sections that meet a train of so many metres on its step. It goes over sections and steps
+/// together, and looks at those sections alone that a step meets.
+fn limit_by_sections(limits: &mut Vec<u16>, sections: &[Section], metres: u32, places: &[u32])
+    requires sections { AreSections (pos 1) (pos 12000) sections.now }
+    requires along { LieAlong sections.now places.now }
+    requires short { metres ≤ 1000 }
+    requires count { length limits.old.items + 1 ≡ length places.now }
+    ensures { AreLimits sections.now [] metres places.now limits.new.items }
 {
-    let mut least = limit;
-    for stretch in stretches {
-        let tail_out = stretch.to as u64 + metres as u64;
-        if stretch.from < end && (start as u64) < tail_out && stretch.limit < least {
-            least = stretch.limit;
-        }
+    let mut k = 0;
+    for i in 0..limits.len() {
+        let (start, end) = (places[i], places[i + 1]);
+        k = first_under(sections, k, metres, start);
+        limits[i] = least_from(sections, k, end);
     }
-    least
 }
 
-/// For each step between two places, the least limit of the sections and stretches that meet a train of so many metres there. It goes over
-/// sections and steps together, and looks at those sections alone that a step meets.
+/// The first step that ends above a place, or the number of steps.
+fn step_beyond(places: &[u32], place: u32) -> usize
+    requires { Rising places.now }
+    ensures before { (i : ℕ) → i < result → slice_index places.now (i + 1) ≤ place }
+    ensures from { (i : ℕ) → result ≤ i → i + 1 < length places.now → place < slice_index places.now (i + 1) }
+{
+    let below = places.partition_point(|p| *p <= place);
+    below.saturating_sub(1)
+}
+
+/// Lowers the limits of the steps on which a stretch meets a train of so many metres. It looks at these steps alone.
+fn lower(limits: &mut Vec<u16>, stretch: &Stretch, metres: u32, places: &[u32])
+    requires rising { Rising places.now }
+    requires count { length limits.old.items + 1 ≡ length places.now }
+    ensures count { length limits.new.items ≡ length limits.old.items }
+    ensures each { (i : ℕ) → i < length limits.old.items → IsLowered stretch.now metres (slice_index places.now i) (slice_index places.now (i + 1)) (slice_index limits.old.items i) (slice_index limits.new.items i) }
+{
+    let tail_out = stretch.to as u64 + metres as u64;
+    let mut i = step_beyond(places, stretch.from);
+    while i < limits.len() && (places[i] as u64) < tail_out {
+        limits[i] = limits[i].min(stretch.limit);
+        i += 1;
+    }
+}
+
+/// Sets for each step between two places the least limit of the sections and stretches that meet a train of so many metres there,
+/// whatever stood there before. It takes no memory, and its cost is that of the steps, the sections, and for each stretch the steps on
+/// which it meets the train.
+pub fn set_step_limits(
+    limits: &mut Vec<u16>,
+    sections: &[Section],
+    stretches: &[Stretch],
+    metres: u32,
+    places: &[u32],
+)
+    requires sections { AreSections (pos 1) (pos 12000) sections.now }
+    requires along { LieAlong sections.now places.now }
+    requires short { metres ≤ 1000 }
+    requires count { length limits.old.items + 1 ≡ length places.now }
+    ensures { AreLimits sections.now stretches.now metres places.now limits.new.items }
+{
+    limit_by_sections(limits, sections, metres, places);
+    for stretch in stretches {
+        lower(limits, stretch, metres, places);
+    }
+}
+
+/// For each step between two places, the least limit of the sections and stretches that meet a train of so many metres there.
 pub(crate) fn limits_of_steps(
     alloc: Global,
     sections: &[Section],
@@ -126,13 +175,7 @@ pub(crate) fn limits_of_steps(
     requires some { 1 ≤ length places.now }
     ensures { IfOk result (λ limits. AreLimits sections.now stretches.now metres places.now limits.items) }
 {
-    let mut limits = Vec::new(alloc);
-    let mut k = 0;
-    for i in 1..places.len() {
-        let (start, end) = (places[i - 1], places[i]);
-        k = first_under(sections, k, metres, start);
-        let least = least_from(sections, k, end);
-        limits.push(lowered(least, stretches, metres, start, end))?;
-    }
+    let mut limits = vec![in alloc; 0u16; places.len() - 1]?;
+    set_step_limits(&mut limits, sections, stretches, metres, places);
     Ok(limits)
 }

@@ -1,0 +1,3 @@
+pub mod LatestLists
+pub mod LatestKept
+pub mod LimitsKept
