@@ -1,3 +1,7 @@
+pub mod AdvanceLists
+pub mod AdvanceShaped
+pub mod AdvanceJoined
+mod AdvanceExamples
 pub mod LatestLists
 pub mod LatestKept
 pub mod LimitsKept

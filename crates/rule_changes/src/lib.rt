@@ -1,8 +1,10 @@
-//! Changes of a run's rules, made in place: their limits, and the latest time of a point.
+//! Changes of a run's rules, made in place: their limits, the latest time of a point, and how far the train has come.
 #![tactic(auto)]
 
+mod advance;
 mod latest;
 mod limits;
 
+pub use advance::advance_to;
 pub use latest::set_latest;
 pub use limits::set_limits;

@@ -186,6 +186,13 @@ impl StepRow {
         let _ = &self.numbers;
     }
 
+    /// The numbers of the step, of which the row is made.
+    pub fn numbers(&self) -> StepNumbers
+        ensures { result ≡ self.now }
+    {
+        self.numbers
+    }
+
     /// The length of the step, m.
     pub fn metres(&self) -> u16
         ensures value { result ≡ self.now.metres }
