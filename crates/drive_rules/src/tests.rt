@@ -36,7 +36,7 @@ fn level_row<L: Ledger>(blank: Blank) -> Option<StepRow>
     StepRow::make(numbers, &mut steps).ok()
 }
 
-/// Two steps of 100 m with a limit of 1,000 cm/s, from rest to a stop.
+/// Two steps of 100 m with a limit of 1,000 cm/s, from rest to a stop, for a train of 50 m.
 fn two_steps(
     alloc: Global,
     row: StepRow,
@@ -57,7 +57,7 @@ fn two_steps(
         top: traction.top(),
         traction,
         brake,
-        train_length: 0,
+        train_length: 50,
         rows: Vec::from_slice(alloc, &[row, row])?,
         limits: Vec::from_slice(alloc, &[1000, 1000])?,
         places: Vec::from_slice(alloc, &[0, 100, 200])?,
@@ -68,7 +68,7 @@ fn two_steps(
 }
 
 /// Two level steps of a train with this traction at every speed, to be driven in so many ms, 30 s at the middle among them.
-fn example(alloc: Global, traction: u32, latest: i64) -> Option<Rules>
+pub(crate) fn example(alloc: Global, traction: u32, latest: i64) -> Option<Rules>
     requires traction { traction ≤ 2000000 }
     requires latest { unsigned_abs latest ≤ 172800000 }
     ensures { IfSome result (λ rules. (length rules.steps ≡ 2) × (length rules.timings ≡ 1) × (rules.top ≡ 1000)) }

@@ -17,7 +17,7 @@ pair_of n t b latest = record {
   top = 1000;
   traction = t;
   brake = b;
-  train_length = 0;
+  train_length = 50;
   steps = n ∷ n ∷ [];
   limits = 1000 ∷ 1000 ∷ [];
   places = 0 ∷ 100 ∷ 200 ∷ [];
@@ -88,7 +88,7 @@ shaped_pair n t b latest range drag metres ft fb lt lb early = record {
 -- rules with these parts are the pair
 pair_is : (r : Rules) (n : StepNumbers) (t b : List ℕ) (latest : ℤ) → r.start ≡ 0 → r.top ≡ 1000 → r.traction ≡ t → r.brake ≡ b →
     r.steps ≡ n ∷ n ∷ [] → r.limits ≡ 1000 ∷ 1000 ∷ [] → r.places ≡ 0 ∷ 100 ∷ 200 ∷ [] → r.stops ≡ true ∷ false ∷ true ∷ [] →
-    r.dwells ≡ 0 ∷ 30000 ∷ 0 ∷ [] → r.timings ≡ (record { point = 2; latest = latest }) ∷ [] → r.train_length ≡ 0 → IsShaped (pair_of n t b latest) → IsShaped r
+    r.dwells ≡ 0 ∷ 30000 ∷ 0 ∷ [] → r.timings ≡ (record { point = 2; latest = latest }) ∷ [] → r.train_length ≡ 50 → IsShaped (pair_of n t b latest) → IsShaped r
 pair_is r n t b latest e0 e1 e2 e3 e4 e5 e6 e7 e8 e9 e10 h =
     let same : r ≡ pair_of n t b latest = λ i. record {
       start = e0 i;

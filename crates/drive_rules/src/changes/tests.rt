@@ -1,0 +1,101 @@
+//! Rules that are changed in place.
+ghost use Rattle.std.specs.Prelude.{◌≡◌, ◌<◌, ◌≤◌, true, length};
+ghost use Rattle.std.specs.Int.RustNames.{unsigned_abs};
+ghost use Rattle.line_file.specs.Shape.{IsLine};
+ghost use Rattle.rule_changes.specs.Limits.{IsOnLine};
+
+use crate::rules::Rules;
+use crate::tests::example;
+use joined_rules::Stretch;
+use line_file::{Line, read_line};
+
+/// Whether each point of the rules is on a line.
+fn is_on_line(rules: &Rules, line: &Line) -> bool
+    requires { 0 < length line.now.limits }
+    ensures { result ≡ true → IsOnLine line.now rules.now }
+{
+    rules.known();
+    let sections = line.limits.items();
+    let (from, to) = (sections[0].from, sections[sections.len() - 1].to);
+    for k in 0..rules.points() {
+        if rules.place(k) < from || to < rules.place(k) {
+            return false;
+        }
+    }
+    true
+}
+
+/// The limits of two steps, once they are set with one stretch.
+fn limits_with(rules: &mut Rules, line: &Line, stretch: Stretch) -> Option<(u16, u16)>
+    requires line { IsLine line.now }
+    requires two { length rules.old.steps ≡ 2 }
+    ensures two { length rules.new.steps ≡ 2 }
+{
+    let is_stretch = stretch.from < stretch.to && 1 <= stretch.limit && stretch.limit <= 12_000;
+    if !is_stretch || !is_on_line(rules, line) {
+        return None;
+    }
+    rules.set_limits(line, &[stretch]);
+    Some((rules.limit(0), rules.limit(1)))
+}
+
+/// A level line of 200 m with a limit of 1,000 cm/s.
+const LINE: &[u8] = b"kind,from,to,value\nlimit,0,200,36\ngradient,0,200,0\n";
+
+#[test]
+fn limits_are_those_of_the_last_stretch(rt: HostRuntime) {
+    let Some(mut rules) = example(rt.alloc(), 51_000, 50_000) else {
+        panic!(rt; "the example cannot be made");
+    };
+    let Ok(line) = read_line(rt.alloc(), LINE) else {
+        panic!(rt; "the line cannot be read");
+    };
+    // The train is 50 m long: on the second step its tail has yet to leave a stretch that ends at 51, and has left one that ends at 50.
+    for (from, to, wanted) in [
+        (30, 51, (300, 300)),
+        (30, 50, (300, 1000)),
+        (100, 200, (1000, 300)),
+    ] {
+        let stretch = Stretch {
+            from,
+            to,
+            limit: 300,
+        };
+        assert_eq!(rt;
+            limits_with(&mut rules, &line, stretch),
+            Some(wanted),
+            "from {from} to {to}"
+        );
+    }
+}
+
+/// Whether the latest time of a point could be set, where few points have one.
+fn can_set(rules: &mut Rules, point: u32, latest: i64) -> bool
+    requires after { 1 ≤ point }
+    requires there { point ≤ length rules.old.steps }
+    requires small { unsigned_abs latest ≤ 172800000 }
+    ensures { length rules.new.steps ≡ length rules.old.steps }
+{
+    let count = rules.timings().len();
+    if count > 31 {
+        return false;
+    }
+    rules.set_latest(point, latest).is_ok()
+}
+
+#[test]
+fn a_latest_time_is_added_and_set(rt: HostRuntime) {
+    let Some(mut rules) = example(rt.alloc(), 51_000, 50_000) else {
+        panic!(rt; "the example cannot be made");
+    };
+    let is_added = can_set(&mut rules, 1, 40_000);
+    let is_set = can_set(&mut rules, 1, -30_000);
+    assert!(rt; is_added && is_set);
+    let timings = rules.timings();
+    let (Some(first), Some(last)) = (timings.first(), timings.last()) else {
+        panic!(rt; "there is no timing point");
+    };
+    assert!(rt; timings.len() == 2);
+    assert!(rt; (first.point, first.latest) == (1, -30_000));
+    assert!(rt; (last.point, last.latest) == (2, 50_000));
+}
