@@ -1,0 +1,4 @@
+pub mod Lines
+pub mod LimitLaws
+pub mod Accepted
+pub mod PlaceLaws
