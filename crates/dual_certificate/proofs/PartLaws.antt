@@ -11,7 +11,9 @@ use Rattle.std.specs.Int.RustNames.{unsigned_abs}
 use Rattle.rail_base.specs.Texts.{line, spaced}
 use Rattle.dual_certificate.specs.Grammar.{cut}
 use Rattle.dual_certificate.specs.declared.certificate.Certificate.{Certificate}
-use Rattle.dual_certificate.specs.Part.{part_from, certificate_part, IsPassed}
+use Rattle.dual_certificate.specs.declared.part.Title.{Title}
+use Rattle.dual_certificate.specs.declared.part.Title.TheVariants as title
+use Rattle.dual_certificate.specs.Part.{title_words, part_from, titled_part, certificate_part, IsPassed}
 use Rattle.dual_certificate.specs.Text.{text_of}
 use Rattle.dual_certificate.proofs.Numerals.{Lacks, signed_lacks}
 use Rattle.dual_certificate.proofs.Cuts.{cut_takes, cut_again}
@@ -39,60 +41,73 @@ uncut_lacks b text e = elim (cases_lt (position_or_len (λ c. eqb c b) text) (le
   | inr more ↦ lacks_each b text (λ i lt. fails_before_first (λ c. eqb c b) text i 0 (omega arith))
 ]
 
+-- ---- titles
+
+title_lacks : (t : Title) → Lacks 10 (title_words t)
+title_lacks title.Certificate = (refl, (refl, (refl, (refl, (refl, (refl, (refl, (refl, (refl, (refl, (refl, (refl, (refl, tt)))))))))))))
+title_lacks title.Costate = (refl, (refl, (refl, (refl, (refl, (refl, (refl, (refl, (refl, tt)))))))))
+
+own_title : (t : Title) (r : List ℕ) → part_from (title_words t) true (title_words t ++ 10 ∷ r) ≡ title_words t ++ 10 ∷ r
+own_title title.Certificate r = refl
+own_title title.Costate r = refl
+
 -- a text that begins with the title's line is cut behind the title
-title_cut : (text : List ℕ) → begins (line (codes "certificate 1")) text ≡ true → cut 10 text ≡ Some (codes "certificate 1", drop 14 text)
-title_cut text h =
-    let front : take 14 text ≡ line (codes "certificate 1") = sym ((bytes_eq-Decides (line (codes "certificate 1")) (take 14 text)).0 h) in
-    let whole : text ≡ codes "certificate 1" ++ 10 ∷ drop 14 text = sym (take-append-drop 14 text) ∙ ap (λ (x : List ℕ). x ++ drop 14 text) front in
-    ap (cut 10) whole ∙ cut_again 10 (codes "certificate 1") (drop 14 text) (refl, (refl, (refl, (refl, (refl, (refl, (refl, (refl, (refl, (refl, (refl, (refl, (refl, tt)))))))))))))
+title_cut : (t : Title) (text : List ℕ) → begins (line (title_words t)) text ≡ true → cut 10 text ≡ Some (title_words t, drop (length (line (title_words t))) text)
+title_cut t text h =
+    let words : List ℕ = title_words t in
+    let n : ℕ = length (line words) in
+    let front : take n text ≡ line words = sym ((bytes_eq-Decides (line words) (take n text)).0 h) in
+    let whole : text ≡ words ++ 10 ∷ drop n text = sym (take-append-drop n text) ∙ ap (λ (x : List ℕ). x ++ drop n text) front ∙ append_assoc words (10 ∷ []) (drop n text) in
+    ap (cut 10) whole ∙ cut_again 10 words (drop n text) (title_lacks t)
 
 -- a line of another text doesn't begin with the title's line
-other_line : (text : List ℕ) (p : List ℕ × List ℕ) → cut 10 text ≡ Some p → bytes_eq p.0 (codes "certificate 1") ≡ false → begins (line (codes "certificate 1")) text ≡ false
-other_line text p e h = elim (cases_Bool (begins (line (codes "certificate 1")) text)) [
-  | inl title ↦ (let same : codes "certificate 1" ≡ p.0 = ap (λ q. q.0) (some_is (codes "certificate 1", drop 14 text) p (sym (title_cut text title) ∙ e)) in
-      absurd (cc (sym h ∙ (bytes_eq-Decides p.0 (codes "certificate 1")).1 (sym same))))
+other_line : (t : Title) (text : List ℕ) (p : List ℕ × List ℕ) → cut 10 text ≡ Some p → bytes_eq p.0 (title_words t) ≡ false → begins (line (title_words t)) text ≡ false
+other_line t text p e h = elim (cases_Bool (begins (line (title_words t)) text)) [
+  | inl title ↦ (let same : title_words t ≡ p.0 = ap (λ q. q.0) (some_is (title_words t, drop (length (line (title_words t))) text) p (sym (title_cut t text title) ∙ e)) in
+      absurd (cc (sym h ∙ (bytes_eq-Decides p.0 (title_words t)).1 (sym same))))
   | inr other ↦ other
 ]
 
-no_line : (text : List ℕ) → cut 10 text ≡ None → begins (line (codes "certificate 1")) text ≡ false
-no_line text e = elim (cases_Bool (begins (line (codes "certificate 1")) text)) [
-  | inl title ↦ absurd (cc (sym (title_cut text title) ∙ e))
+no_line : (t : Title) (text : List ℕ) → cut 10 text ≡ None → begins (line (title_words t)) text ≡ false
+no_line t text e = elim (cases_Bool (begins (line (title_words t)) text)) [
+  | inl title ↦ absurd (cc (sym (title_cut t text title) ∙ e))
   | inr other ↦ other
 ]
 
 -- within a line
-within_line : (l r : List ℕ) → Lacks 10 l → part_from false (l ++ 10 ∷ r) ≡ part_from true r
-within_line [] r h = refl
-within_line (c ∷ cs) r h = rw h.0 (within_line cs r h.1)
+within_line : (words l r : List ℕ) → Lacks 10 l → part_from words false (l ++ 10 ∷ r) ≡ part_from words true r
+within_line words [] r h = refl
+within_line words (c ∷ cs) r h = rw h.0 (within_line words cs r h.1)
 
-within_last : (l : List ℕ) → Lacks 10 l → part_from false l ≡ []
-within_last [] h = refl
-within_last (c ∷ cs) h = rw h.0 (within_last cs h.1)
+within_last : (words l : List ℕ) → Lacks 10 l → part_from words false l ≡ []
+within_last words [] h = refl
+within_last words (c ∷ cs) h = rw h.0 (within_last words cs h.1)
 
-over_line : (l r : List ℕ) → Lacks 10 l → begins (line (codes "certificate 1")) (l ++ 10 ∷ r) ≡ false → part_from true (l ++ 10 ∷ r) ≡ part_from true r
-over_line [] r h g = refl
-over_line (c ∷ cs) r h g = rw (g, h.0) (within_line cs r h.1)
+over_line : (words l r : List ℕ) → Lacks 10 l → begins (line words) (l ++ 10 ∷ r) ≡ false → part_from words true (l ++ 10 ∷ r) ≡ part_from words true r
+over_line words [] r h g = rw g refl
+over_line words (c ∷ cs) r h g = rw (g, h.0) (within_line words cs r h.1)
 
-over_last : (l : List ℕ) → Lacks 10 l → begins (line (codes "certificate 1")) l ≡ false → part_from true l ≡ []
-over_last [] h g = refl
-over_last (c ∷ cs) h g = rw (g, h.0) (within_last cs h.1)
+over_last : (words l : List ℕ) → Lacks 10 l → begins (line words) l ≡ false → part_from words true l ≡ []
+over_last words [] h g = refl
+over_last words (c ∷ cs) h g = rw (g, h.0) (within_last words cs h.1)
 
 -- another line is passed over
-pub line_passed : (text : List ℕ) (p : List ℕ × List ℕ) → cut 10 text ≡ Some p → bytes_eq p.0 (codes "certificate 1") ≡ false → part_from true text ≡ part_from true p.1
-line_passed text p e h =
+pub line_passed : (t : Title) (text : List ℕ) (p : List ℕ × List ℕ) → cut 10 text ≡ Some p → bytes_eq p.0 (title_words t) ≡ false → part_from (title_words t) true text ≡ part_from (title_words t) true p.1
+line_passed t text p e h =
+    let words : List ℕ = title_words t in
     let whole = cut_takes 10 text p e in
-    ap (part_from true) whole ∙ over_line p.0 p.1 (cut_lacks 10 text p e) (subst (λ (x : List ℕ). begins (line (codes "certificate 1")) x ≡ false) whole (other_line text p e h))
+    ap (part_from words true) whole ∙ over_line words p.0 p.1 (cut_lacks 10 text p e) (subst (λ (x : List ℕ). begins (line words) x ≡ false) whole (other_line t text p e h))
 
 -- the part begins at its title
-pub title_found : (text : List ℕ) (p : List ℕ × List ℕ) → cut 10 text ≡ Some p → bytes_eq p.0 (codes "certificate 1") ≡ true → part_from true text ≡ text
-title_found text p e h =
-    let title = (bytes_eq-Decides p.0 (codes "certificate 1")).0 h in
-    let whole : text ≡ codes "certificate 1" ++ 10 ∷ p.1 = cut_takes 10 text p e ∙ ap (λ (x : List ℕ). x ++ 10 ∷ p.1) title in
-    ap (part_from true) whole ∙ sym whole
+pub title_found : (t : Title) (text : List ℕ) (p : List ℕ × List ℕ) → cut 10 text ≡ Some p → bytes_eq p.0 (title_words t) ≡ true → part_from (title_words t) true text ≡ text
+title_found t text p e h =
+    let title = (bytes_eq-Decides p.0 (title_words t)).0 h in
+    let whole : text ≡ title_words t ++ 10 ∷ p.1 = cut_takes 10 text p e ∙ ap (λ (x : List ℕ). x ++ 10 ∷ p.1) title in
+    ap (part_from (title_words t) true) whole ∙ own_title t p.1 ∙ sym whole
 
 -- no line is left
-pub none_found : (text : List ℕ) → cut 10 text ≡ None → part_from true text ≡ []
-none_found text e = over_last text (uncut_lacks 10 text e) (no_line text e)
+pub none_found : (t : Title) (text : List ℕ) → cut 10 text ≡ None → part_from (title_words t) true text ≡ []
+none_found t text e = over_last (title_words t) text (uncut_lacks 10 text e) (no_line t text e)
 
 pub cut_shorter : (b : ℕ) (text : List ℕ) (p : List ℕ × List ℕ) → cut b text ≡ Some p → length p.1 < length text
 cut_shorter b text p e = omega (arith, ap length (cut_takes b text p e), length-append p.0 (b ∷ p.1))
@@ -100,11 +115,14 @@ cut_shorter b text p e = omega (arith, ap length (cut_takes b text p e), length-
 -- ---- what is passed over
 
 pub passed_append : (a b : List ℕ) → IsPassed a → IsPassed b → IsPassed (a ++ b)
-passed_append a b h g rest = ap certificate_part (append_assoc a b rest) ∙ h (b ++ rest) ∙ g rest
+passed_append a b h g t rest = ap (titled_part t) (append_assoc a b rest) ∙ h t (b ++ rest) ∙ g t rest
 
--- a line that doesn't begin as the title does
-pub passed_line : (l : List ℕ) → Lacks 10 l → ((r : List ℕ) → begins (line (codes "certificate 1")) (l ++ 10 ∷ r) ≡ false) → IsPassed (line l)
-passed_line l lacks other rest = ap certificate_part (append_assoc l (10 ∷ []) rest) ∙ over_line l rest lacks (other rest)
+-- a line that doesn't begin as a title does
+pub passed_line : (l : List ℕ) → Lacks 10 l → ((r : List ℕ) → begins (line (codes "certificate 1")) (l ++ 10 ∷ r) ≡ false)
+    → ((r : List ℕ) → begins (line (codes "costate 1")) (l ++ 10 ∷ r) ≡ false) → IsPassed (line l)
+passed_line l lacks other more title.Certificate rest = ap certificate_part (append_assoc l (10 ∷ []) rest) ∙ over_line (codes "certificate 1") l rest lacks (other rest)
+passed_line l lacks other more title.Costate rest =
+    ap (titled_part title.Costate) (append_assoc l (10 ∷ []) rest) ∙ over_line (codes "costate 1") l rest lacks (more rest)
 
 pub spaced_lacks : (z : ℤ) → unsigned_abs z < 10 ^ 64 → Lacks 10 (spaced z)
 spaced_lacks z small = (refl, signed_lacks 10 z small (inl (omega arith)) refl)

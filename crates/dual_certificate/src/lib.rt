@@ -14,7 +14,7 @@ mod writing;
 pub use certificate::{CellList, CertCell, CertPoint, Certificate, PointList, PriceList};
 pub use fault::CertFault;
 pub use number::{MOST, read_spelled};
-pub use part::certificate_part;
+pub use part::{Title, certificate_part, titled_part};
 pub use reading::{read, read_prices};
 pub use text::{Rest, after_word};
 pub use writing::{put_certificate, put_one, put_prices, write};
