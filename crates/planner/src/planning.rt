@@ -1,15 +1,12 @@
 //! The plan of a run.
-ghost use Rattle.std.specs.Prelude.{◌≡◌, ℕ, ◌≤◌, ◌+◌, ◌^◌, ◌⊎◌, length, slice_index, map, IfOk, EachIndex};
-ghost use Rattle.std.specs.List.{slice_index_or};
+ghost use Rattle.std.specs.Prelude.{◌≡◌, ℕ, ◌≤◌, ◌+◌, ◌^◌, ◌⊎◌, length, slice_index, map, IfOk};
 ghost use Rattle.rail_specs.specs.Rules.{IsDrive};
-ghost use Rattle.rail_specs.specs.Cost.{cost_of};
 ghost use Rattle.bound_specs.specs.Cells.{cell_count, AreSingle};
-ghost use Rattle.phase_composer.specs.Best.{IsBestOfFamily};
+ghost use Rattle.drive_choice.specs.Choices.{IsChosen};
 ghost use Rattle.price_rounds.specs.Rounds.{IsValued, IsLastBest, BeatsAlone};
-ghost use Rattle.proposers.specs.States.{Improves, IsOnTimeDrive, no_state, state};
+ghost use Rattle.proposers.specs.States.{state};
 ghost use Rattle.planner.specs.Works.{AreSplit, IsMet};
 ghost use Rattle.planner.specs.Plans.{IsSomePlan, IsAnswer, AreAsked};
-ghost use Rattle.std.specs.Int.RustNames.{unsigned_abs};
 
 use crate::answer::{Answer, Options, Plan};
 use crate::finish::finished;
@@ -18,12 +15,11 @@ use crate::refine::refined;
 use crate::start::even_cells;
 use crate::work::Work;
 use cell_splitting::splits_known;
-use drive_rules::{Drive, Judged, Rules};
-use drive_search::search_drive;
-use phase_composer::{Costed, Kept, compose_with_cost};
+use drive_choice::{Choice, Chosen, choose_drive};
+use drive_rules::Rules;
 use potential_table::{finer_cells_bound_more, prices_for};
 use price_rounds::find_prices;
-use proposers::{Proposer, improve};
+use proposers::Proposer;
 use rail_base::StepCost;
 use relaxed_costs::relaxed_costs_known;
 use std::alloc::{AllocError, Global};
@@ -49,70 +45,40 @@ pub fn plan<C: StepCost>(
         (map (λ b. state (offers b) (takes b) (begins b)) boxes.new.items)) }
     ensures len { length boxes.new.items ≡ length boxes.old.items }
 {
-    match compose_with_cost(alloc, rules, cost)? {
-        Costed::NoDrive => Ok(Answer::NoDrive),
-        Costed::Late { timing, arrival } => Ok(Answer::Late { timing, arrival }),
-        Costed::Best(kept) => {
-            let plan = plan_from(alloc, rules, cost, options, boxes, kept)?;
+    match choose_drive(alloc, rules, cost, boxes)? {
+        Choice::NoDrive => Ok(Answer::NoDrive),
+        Choice::Late { timing, arrival } => Ok(Answer::Late { timing, arrival }),
+        Choice::Drive(chosen) => {
+            let plan = planned(alloc, rules, cost, options, chosen)?;
             Ok(Answer::Drive(plan))
         }
     }
 }
 
-/// The plan with a drive that is the best of the family, once a search and the boxes have improved it. Or want of memory.
-fn plan_from<C: StepCost>(
-    alloc: Global,
-    rules: &Rules,
-    cost: &C,
-    options: Options,
-    boxes: &mut Vec<Box<dyn Proposer>>,
-    kept: Kept,
-) -> Result<Plan, AllocError>
-    requires splits { options.splits ≤ 50000 }
-    requires tolerance { options.tolerance ≤ 1000 }
-    requires best { IsBestOfFamily (C.cost cost.now) rules.now kept.drive }
-    requires costs { kept.cost ≡ cost_of (C.cost cost.now) rules.now kept.drive }
-    ensures plan { IfOk result (IsSomePlan (C.cost cost.now) rules.now options.splits options.tolerance) }
-    ensures improves { IfOk result (λ plan. EachIndex boxes.new.items (λ k. Improves (C.cost cost.now) rules.now plan.drive
-        (slice_index_or (map (λ b. state (offers b) (takes b) (begins b)) boxes.old.items) k no_state)
-        (slice_index_or (map (λ b. state (offers b) (takes b) (begins b)) boxes.new.items) k no_state))) }
-    ensures len { length boxes.new.items ≡ length boxes.old.items }
-{
-    let mut kept = kept;
-    let prices = search_drive(alloc, rules, cost, &mut kept)?;
-    let mut drive = kept.drive;
-    improve(alloc, boxes, rules, cost, &mut drive)?;
-    let plan = planned(alloc, rules, cost, options, drive, prices.as_slice())?;
-    Ok(plan)
-}
-
-/// The plan with a drive, whose bound is sought from these prices of the timing points on. Or want of memory.
+/// The plan with the drive that was chosen, whose bound is sought from its search's prices on. Or want of memory.
 fn planned<C: StepCost>(
     alloc: Global,
     rules: &Rules,
     cost: &C,
     options: Options,
-    drive: Drive,
-    given: &[u64],
+    chosen: Chosen,
 ) -> Result<Plan, AllocError>
-    requires count { length given.now ≡ length rules.now.timings }
-    requires low { (j : ℕ) → slice_index given.now j ≤ 2 ^ 50 }
     requires splits { options.splits ≤ 50000 }
     requires tolerance { options.tolerance ≤ 1000 }
-    requires best { IsBestOfFamily (C.cost cost.now) rules.now drive }
+    requires chosen { IsChosen (C.cost cost.now) rules.now chosen }
     ensures plan { IfOk result (IsSomePlan (C.cost cost.now) rules.now options.splits options.tolerance) }
-    ensures drive { IfOk result (λ plan. plan.drive ≡ drive) }
+    ensures drive { IfOk result (λ plan. plan.drive ≡ chosen.drive) }
 {
     rules.known();
     splits_known();
     finer_cells_bound_more(rules);
-    let energy = cost_of_drive(rules, cost, &drive);
     let goal = Goal {
-        energy,
+        energy: chosen.cost,
         tolerance: options.tolerance,
         splits: options.splits,
     };
-    let work = found_work(alloc, rules, cost, goal, drive.speeds(), given)?;
+    let speeds = chosen.drive.speeds();
+    let work = found_work(alloc, rules, cost, goal, speeds, chosen.prices.as_slice())?;
     let Work { cells, valued } = work;
     relaxed_costs_known(rules, &valued.prices);
     let Some(bound) = valued.value else {
@@ -120,8 +86,8 @@ fn planned<C: StepCost>(
     };
     let splits = (cells.count() - rules.points()) as u32;
     Ok(Plan {
-        drive,
-        cost: energy,
+        drive: chosen.drive,
+        cost: chosen.cost,
         bound,
         prices: valued.prices,
         cells,
@@ -174,16 +140,4 @@ fn first_work<C: StepCost>(
     let cells = even_cells(alloc, rules, &prices, drive, goal.splits)?;
     let valued = find_prices(alloc, rules, cost, &cells, &prices)?;
     Ok(Work { cells, valued })
-}
-
-/// What a drive on time costs.
-fn cost_of_drive<C: StepCost>(rules: &Rules, cost: &C, drive: &Drive) -> i128
-    requires { IsOnTimeDrive rules.now drive.now }
-    ensures value { result ≡ cost_of (C.cost cost.now) rules.now drive.now }
-    ensures small { unsigned_abs result ≤ 2 ^ 74 }
-{
-    match rules.judge(drive.speeds(), cost) {
-        Judged::Kept { cost } => cost,
-        Judged::Broken(..) => unreachable!(),
-    }
 }

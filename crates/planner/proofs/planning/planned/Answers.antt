@@ -13,8 +13,8 @@ use Rattle.planner.proofs.planning.planned.Goals as goal
 pub unreachable-requires : goal.unreachable-requires
 unreachable-requires g c =
     let work = c.in_ok-work.ensures in
-    rw c.in_default.is at (c.relaxed_costs_known.ensures.below (g.C.StepCost.cost c.args.cost.now) c.in_ok-work.work.cells c.in_ok-work.work.valued.value c.args.drive
-    (g.met.C.StepCost.grows c.args.cost.now) (g.met.C.StepCost.within c.args.cost.now) work.valued.timings work.cells.fit work.valued.value c.requires.best.drive)
+    rw c.in_default.is at (c.relaxed_costs_known.ensures.below (g.C.StepCost.cost c.args.cost.now) c.in_ok-work.work.cells c.in_ok-work.work.valued.value c.args.chosen.drive
+    (g.met.C.StepCost.grows c.args.cost.now) (g.met.C.StepCost.within c.args.cost.now) work.valued.timings work.cells.fit work.valued.value c.requires.chosen.best.drive)
 
 pub overflow_sub-splits : goal.overflow_sub-splits
 overflow_sub-splits g c =
@@ -32,22 +32,22 @@ returns-clause-plan g c =
     let within = g.met.C.StepCost.within c.args.cost.now in
     let fewer = no_fewer r c.args.options.splits cells split in
     let small = rw c.in-Some.is at work.valued.small in
-    let energy : to_z w128 (of_z w128 c.cost_of_drive-energy.result) ≡ c.cost_of_drive-energy.result = omega (arith, ints, c.cost_of_drive-energy.ensures.small) in
+    let energy : to_z w128 (of_z w128 c.args.chosen.cost) ≡ c.args.chosen.cost = omega (arith, ints, c.requires.chosen.small) in
     let bound : to_z w128 (of_z w128 c.in-Some.bound) ≡ c.in-Some.bound = omega (arith, ints, small) in
     let value : IsChainValue (pricing cost r prices) cells (Some c.in-Some.bound) = rw c.in-Some.is at work.valued.value in
     let last : IsLastBest cost r cells prices (Some c.in-Some.bound) = rw c.in-Some.is at work.last in
     let alone : BeatsAlone cost r cells (Some c.in-Some.bound) = rw c.in-Some.is at work.alone in
-    let met : IsTrue c.is_met.result ↔ GapMet c.cost_of_drive-energy.result c.in-Some.bound c.args.options.tolerance = rw (energy, bound) at c.is_met.ensures in
-    let spent : (GapMet c.cost_of_drive-energy.result c.in-Some.bound c.args.options.tolerance → ⊥)
+    let met : IsTrue c.is_met.result ↔ GapMet c.args.chosen.cost c.in-Some.bound c.args.options.tolerance = rw (energy, bound) at c.is_met.ensures in
+    let spent : (GapMet c.args.chosen.cost c.in-Some.bound c.args.options.tolerance → ⊥)
     → (cell_count cells ≡ length r.steps + 1 + c.args.options.splits) ⊎ AreSingle cells = rw (energy, c.in-Some.is) at work.spent in
     rw (energy, bound) (
       split.whole,
       split.even,
       split.times,
       record {
-        best = c.requires.best;
-        costs = c.cost_of_drive-energy.ensures.value;
-        small_cost = omega (arith, c.cost_of_drive-energy.ensures.small);
+        best = c.requires.chosen.best;
+        costs = c.requires.chosen.costs;
+        small_cost = omega (arith, c.requires.chosen.small);
         small_bound = small;
         are_whole = split.are_whole;
         are_even = split.are_even;
