@@ -6,5 +6,5 @@ mod latest;
 mod limits;
 
 pub use advance::advance_to;
-pub use latest::set_latest;
+pub use latest::{room_for_latest, set_latest};
 pub use limits::set_limits;
