@@ -7,3 +7,5 @@ pub mod LatestKept
 pub mod LatestJoined
 pub mod LatestRoom
 pub mod LimitsKept
+pub mod SameLists
+pub mod JoinedOnce
