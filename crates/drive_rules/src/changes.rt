@@ -1,11 +1,11 @@
 //! Changes of rules that are in use, made in place.
 
-ghost use Rattle.std.specs.Prelude.{◌≡◌, ◌<◌, ◌≤◌, pos, ◌≤ℤ◌, length, slice_index, OnOk, OnErr};
+ghost use Rattle.std.specs.Prelude.{◌≡◌, ℕ, ℤ, ◌<◌, ◌≤◌, pos, ◌≤ℤ◌, length, slice_index, OnOk, OnErr};
 ghost use Rattle.std.specs.Int.RustNames.{unsigned_abs};
 ghost use Rattle.line_file.specs.Shape.{IsLine};
 ghost use Rattle.rule_changes.specs.Advance.{CountsFirst, GoesOnJoined, IsAdvanced, IsNoStopNext, StayInRange};
 ghost use Rattle.rule_changes.specs.Limits.{AreStretches, HasLeastLimits, IsLimited, IsOnLine};
-ghost use Rattle.rule_changes.specs.Latest.{IsLatestSet, with_latest, with_latest_at};
+ghost use Rattle.rule_changes.specs.Latest.{HasRoom, IsLatestSet, StaysJoined, with_latest, with_latest_at};
 
 use crate::rules::Rules;
 use joined_rules::Stretch;
@@ -39,9 +39,17 @@ impl Rules {
         requires small { unsigned_abs latest ≤ 172800000 }
         ensures set { OnOk result (self.new ≡ with_latest_at self.old point latest) }
         ensures others { OnOk result (IsLatestSet self.old.timings point latest self.new.timings) }
+        ensures joined { OnOk result (StaysJoined point latest self.old self.new) }
         ensures refused { OnErr result (self.new ≡ self.old) }
     {
         rule_changes::set_latest(&mut self.parts, point, latest)
+    }
+
+    /// What holds of joined rules: they have room for the latest time of a call wherever at most 64 calls after the first have one then.
+    pub fn known_room(&self)
+        ensures { (point : ℕ) (latest : ℤ) → HasRoom self.now point latest }
+    {
+        rule_changes::room_for_latest();
     }
 
     /// Makes a place the start, and a speed, in cm/s, the start speed, so many ms later than the start before. The grid is the place and the

@@ -1,9 +1,10 @@
 //! The latest time of a point, set or added.
 
-ghost use Rattle.std.specs.Prelude.{◌≡◌, ◌≤◌, length, OnOk, OnErr};
+ghost use Rattle.std.specs.Prelude.{◌≡◌, ◌≤◌, ℕ, ℤ, length, OnOk, OnErr};
 ghost use Rattle.std.specs.Int.RustNames.{unsigned_abs};
+ghost use Rattle.rail_specs.specs.Rules.{Rules};
 ghost use Rattle.rule_parts.specs.Shaped.{rules_of, IsShaped, Rises};
-ghost use Rattle.rule_changes.specs.Latest.{IsLatestSet, IsPlaceOf, with_latest, with_latest_at};
+ghost use Rattle.rule_changes.specs.Latest.{HasRoom, IsLatestSet, IsPlaceOf, StaysJoined, with_latest, with_latest_at};
 
 use rail_specs::Timing;
 use rule_parts::Parts;
@@ -42,8 +43,14 @@ pub fn set_latest(parts: &mut Parts, point: u32, latest: i64) -> Result<(), Allo
     requires small { unsigned_abs latest ≤ 172800000 }
     ensures set { OnOk result (rules_of parts.new ≡ with_latest_at (rules_of parts.old) point latest) }
     ensures others { OnOk result (IsLatestSet parts.old.timings.items point latest parts.new.timings.items) }
+    ensures joined { OnOk result (StaysJoined point latest (rules_of parts.old) (rules_of parts.new)) }
     ensures refused { OnErr result (rules_of parts.new ≡ rules_of parts.old) }
     ensures shaped { IsShaped (rules_of parts.new) }
 {
     put(&mut parts.timings, Timing { point, latest })
 }
+
+/// What holds of joined rules: they have room for the latest time of a call wherever at most 64 calls after the first have one then.
+pub fn room_for_latest()
+    ensures { (r : Rules) (point : ℕ) (latest : ℤ) → HasRoom r point latest }
+{}

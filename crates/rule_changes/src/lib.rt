@@ -2,9 +2,11 @@
 #![tactic(auto)]
 
 mod advance;
+mod fixed;
 mod latest;
 mod limits;
 
 pub use advance::advance_to;
-pub use latest::set_latest;
+pub use fixed::joined_rules_are_fixed;
+pub use latest::{room_for_latest, set_latest};
 pub use limits::set_limits;
