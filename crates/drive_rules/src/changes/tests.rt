@@ -1,13 +1,18 @@
 //! Rules that are changed in place.
-ghost use Rattle.std.specs.Prelude.{◌≡◌, ◌<◌, ◌≤◌, true, length};
+ghost use Rattle.std.specs.Prelude.{◌≡◌, ◌<◌, ◌≤◌, pos, ◌≤ℤ◌, true, length};
 ghost use Rattle.std.specs.Int.RustNames.{unsigned_abs};
 ghost use Rattle.line_file.specs.Shape.{IsLine};
+ghost use Rattle.rule_changes.specs.Advance.{StayInRange};
 ghost use Rattle.rule_changes.specs.Limits.{IsOnLine};
 
 use crate::rules::Rules;
 use crate::tests::example;
 use joined_rules::Stretch;
 use line_file::{Line, read_line};
+use rail_specs::Timing;
+use std::marker::Brand;
+use std::sync::ledger::{Blank, Ledger};
+use step_energy::Steps;
 
 /// Whether each point of the rules is on a line.
 fn is_on_line(rules: &Rules, line: &Line) -> bool
@@ -98,4 +103,73 @@ fn a_latest_time_is_added_and_set(rt: HostRuntime) {
     assert!(rt; timings.len() == 2);
     assert!(rt; (first.point, first.latest) == (1, -30_000));
     assert!(rt; (last.point, last.latest) == (2, 50_000));
+}
+
+/// Whether no latest time falls too low where all fall by so many ms.
+fn stay_in_range(timings: &[Timing], later: i64) -> bool
+    requires { (pos 0 ≤ℤ later) × (later ≤ℤ pos 172800000) }
+    ensures { result ≡ true → StayInRange timings.now later }
+{
+    for timing in timings {
+        if timing.latest < later - 172_800_000 {
+            return false;
+        }
+    }
+    true
+}
+
+/// Whether the train can go on at 900 cm/s from a place of the rules and of the line, so many ms later. Then it does.
+fn can_advance_with<L: Ledger>(
+    rules: &mut Rules,
+    line: &Line,
+    place: u32,
+    later: i64,
+    blank: Blank,
+) -> bool
+    requires line { IsLine line.now }
+    requires later { (pos 0 ≤ℤ later) × (later ≤ℤ pos 172800000) }
+    requires name { blank.name ≡ L.name }
+    requires parts { blank.parts ≡ L.parts }
+    requires some { 0 < L.parts }
+{
+    let is_within = rules.place(0) <= place && place < rules.place(rules.steps());
+    if !is_within || !is_on_line(rules, line) || !stay_in_range(rules.timings(), later) {
+        return false;
+    }
+    let mut steps = Steps::<L>::new(blank);
+    rules.advance(line, &[], place, 900, later, &mut steps);
+    true
+}
+
+fn can_advance(rules: &mut Rules, line: &Line, place: u32, later: i64) -> bool
+    requires line { IsLine line.now }
+    requires later { (pos 0 ≤ℤ later) × (later ≤ℤ pos 172800000) }
+{
+    can_advance_with::<Brand>(rules, line, place, later, Blank::new(1))
+}
+
+#[test]
+fn a_train_goes_on_from_later_places(rt: HostRuntime) {
+    let Some(mut rules) = example(rt.alloc(), 51_000, 100_000) else {
+        panic!(rt; "the example cannot be made");
+    };
+    let Ok(line) = read_line(rt.alloc(), LINE) else {
+        panic!(rt; "the line cannot be read");
+    };
+    // Between two points, at a point with a dwell, and between the last two: the steps that are left, the length of the first of them, and
+    // the latest time at the end.
+    for (place, steps, metres, latest) in [
+        (50, 2, 50, 90_000),
+        (100, 1, 100, 80_000),
+        (130, 1, 70, 70_000),
+    ] {
+        assert!(rt; can_advance(&mut rules, &line, place, 10_000));
+        assert!(rt; (rules.place(0), rules.start(), rules.steps()) == (place, 900, steps));
+        assert!(rt; (rules.row(0).metres(), rules.limit(0)) == (metres, 1000));
+        assert!(rt; (rules.stop(0), rules.dwell(0)) == (false, 0));
+        let Some(last) = rules.timings().last() else {
+            panic!(rt; "there is no timing point");
+        };
+        assert!(rt; (last.point as usize, last.latest) == (steps, latest));
+    }
 }
