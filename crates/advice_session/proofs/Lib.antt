@@ -2,3 +2,4 @@ pub mod Lines
 pub mod LimitLaws
 pub mod Accepted
 pub mod PlaceLaws
+pub mod MoveLaws

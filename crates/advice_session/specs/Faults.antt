@@ -77,9 +77,13 @@ lift_fault d name = if is_some (index_of d.names name) then None else Some NoSuc
 
 -- ---- a latest time is set
 
+-- which of the calls stands at a place
+abbrev pub call_at_place : List Call → ℕ → Option ℕ
+call_at_place calls place = position (λ c. c.place == place) calls
+
 -- which call stands at a place behind the train
 abbrev pub call_behind : Data → ℕ → Option ℕ
-call_behind d place = if nat_lt d.setup.place place then position (λ c. c.place == place) d.service.calls else None
+call_behind d place = if nat_lt d.setup.place place then call_at_place d.service.calls place else None
 
 -- a latest time of this call would be one too many: it has none, and 64 calls after the first have one
 abbrev pub is_too_many : List Call → ℕ → Bool

@@ -1,7 +1,7 @@
 //! The points of rules by their places.
 
 ghost use Rattle.std.specs.Prelude.{◌≡◌, ◌+◌, ◌≤◌, length};
-ghost use Rattle.advice_session.specs.Faults.{point_behind};
+ghost use Rattle.advice_session.specs.Faults.{is_stop_next, point_behind};
 
 use drive_rules::Rules;
 
@@ -18,4 +18,13 @@ pub(crate) fn point_behind(rules: &Rules, place: u32) -> usize
         }
     }
     points
+}
+
+/// Whether the next point behind a place is a stop.
+pub(crate) fn is_stop_next(rules: &Rules, place: u32) -> bool
+    ensures { result ≡ is_stop_next rules.now place }
+{
+    rules.known();
+    let k = point_behind(rules, place);
+    k < rules.points() && rules.stop(k)
 }

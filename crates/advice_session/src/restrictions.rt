@@ -125,7 +125,7 @@ impl Session {
         };
         self.names.remove(i);
         self.stretches.remove(i);
-        self.rules.set_limits(&self.line, &self.stretches);
+        self.rules.set_limits(&self.line, self.stretches.as_slice());
         Ok(())
     }
 }

@@ -18,9 +18,9 @@ invariant_of-self g c =
     let stands : i < length c.self.inside.stretches.items = omega (arith, there, old.names) in
     let names : length c.remove.new.self.items + 1 ≡ length c.self.inside.names.items = omega (arith, ap length c.remove.ensures.items, length-remove c.self.inside.names.items i there) in
     let stretches : length c.remove-2.new.self.items + 1 ≡ length c.self.inside.stretches.items = omega (arith, ap length c.remove-2.ensures.items, length-remove c.self.inside.stretches.items i stands) in
-    relimited _ _ _ _ _ _ _ _ c.remove.new.self.items _ c.remove-2.new.self.items c.deref-2.result.now _ _ old
+    relimited _ _ _ _ _ _ _ _ c.remove.new.self.items _ c.remove-2.new.self.items c.as_slice.result.now _ _ old
     (subst AreStretches (sym c.remove-2.ensures.items) (stretches_removed c.self.inside.stretches.items i stands old.setup.stretches))
     (omega (arith, names, stretches, old.names))
     (omega (arith, names, old.few))
-    c.deref-2.ensures.value
+    c.as_slice.ensures.value
     c.set_limits.ensures
