@@ -39,25 +39,6 @@ drive_answer cost r splits tolerance regeneration status text p c few shaped pri
       },
     )
 
--- no drive is on time
-pub late_answer : (cost : ℤ → ℤ) (r : Rules) (splits tolerance : ℕ) (regeneration : Option ℕ) (text : List ℕ) (timing arrival : ℕ) → IsLate r timing arrival
-    → text ≡ late_text r timing arrival → IsPlanAnswer cost r splits tolerance regeneration 5 text
-late_answer cost r splits tolerance regeneration text timing arrival late says =
-    let (speeds, greatest, first, at) = late.greatest in
-    inr (inl (
-      speeds,
-      (
-        timing,
-        record {
-          greatest = greatest;
-          none = late.none;
-          first = first;
-          ends = refl;
-          says = says ∙ ap (late_text r timing) at;
-        },
-      ),
-    ))
-
 -- what holds of an answer where there is one
 pub ok_map : {A E : Type 0} (r : Result A E) (P Q : A → Type 0) → ((a : A) → P a → Q a) → IfOk r P → IfOk r Q
 ok_map (Ok a) P Q f h = f a h

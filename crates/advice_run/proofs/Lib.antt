@@ -1,4 +1,3 @@
 pub mod AnswerLemmas
 pub mod CertificateLemmas
 pub mod SampleLemmas
-pub mod WordsLemmas

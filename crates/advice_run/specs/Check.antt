@@ -1,14 +1,7 @@
 -- The answer to the check of a report.
-use Rattle.std.specs.Prelude.{ℕ, ◌≡◌, ◌≢◌, ℤ, List, [], ⊤, None, Some, IfSome, Ok, Err, codes, ◌⊎◌}
+use Rattle.std.specs.Prelude.{ℕ, ◌≡◌, ◌≢◌, ℤ, List, ⊤, None, Some, IfSome, Ok, Err, ◌⊎◌}
 use Rattle.rail_specs.specs.Rules.{Rules}
 use Rattle.rail_specs.specs.Ranges.{AreRanges, no_narrowing}
-use Rattle.edge_io.specs.Faults.{Told}
-use Rattle.command_files.specs.Answers.{refused_text}
-use Rattle.command_files.specs.Files.{Kind, Says, first_ends}
-use Rattle.line_file.specs.declared.line.Line.{Line}
-use Rattle.line_file.specs.declared.service.Service.{Service}
-use Rattle.train_file.specs.declared.train.Train.{Train}
-use Rattle.plan_files.specs.Kinds.{line_kind, service_kind, train_kind}
 use Rattle.dual_certificate.specs.declared.certificate.Certificate.{Certificate}
 use Rattle.dual_certificate.specs.declared.fault.CertFault.{CertFault}
 use Rattle.dual_certificate.specs.declared.fault.CertFault.TheVariants.{NoMemory as NoMemoryToRead}
@@ -18,35 +11,9 @@ use Rattle.certificate_checker.specs.declared.refused.Refused.{Refused}
 use Rattle.certificate_checker.specs.declared.refused.Refused.TheVariants.{NoMemory as NoMemoryToCheck}
 use Rattle.certificate_checker.specs.Holds.{Holds, Shows}
 use Rattle.certificate_checker.specs.Refusals.{Refuses, early_refusal, late_refusal}
-use Rattle.certificate_words.specs.Words.{certified_text, fault_words, refused_words}
-use Rattle.advice_run.specs.declared.report_file.ReportFault.{ReportFault}
-
--- ---- the files
-
--- a report: any text
-abbrev pub report_kind : Kind (List ℕ) ReportFault
-report_kind = record { role = codes "report"; most = 8388608; read = λ text. Ok text; words = λ fault. [] }
-
--- a run may end at one of the files of a line, a train, a service and a report, read in this order
-abbrev pub CheckEnds : List ℕ → List ℕ → List ℕ → List ℕ → (List ℕ → Told) → (List ℕ → ℕ) → (List ℕ → ℕ) → ℕ → List ℕ → Type 0
-CheckEnds line train service report told before now =
-    first_ends line_kind line told before now
-    (first_ends train_kind train told before now
-    (first_ends service_kind service told before now (first_ends report_kind report told before now (λ _ _. ⊥))))
-
--- what these files may say
-abbrev pub CheckSays : List ℕ → List ℕ → List ℕ → List ℕ → (List ℕ → Told) → Line × (Train × (Service × (List ℕ × ⊤))) → Type 0
-CheckSays line train service report told said =
-    Says line_kind line told said.0
-    × (Says train_kind train told said.1.0
-    × (Says service_kind service told said.1.1.0 × (Says report_kind report told said.1.1.1.0 × ⊤)))
-
--- ---- the answer
-
--- the certificate is refused in these words: status 9
-pub record IsRefusedIn (words : List ℕ) (status : ℕ) (text : List ℕ) : Type 0 where
-  pub ends : status ≡ 9
-  pub says : text ≡ refused_text (codes "certificate") words
+use Rattle.certificate_words.specs.Words.{refused_words}
+use Rattle.run_parts.specs.CertificateTexts.{certified_text, fault_words}
+use Rattle.run_parts.specs.Reports.{IsRefusedIn}
 
 -- a certificate holds for the rules at this cost of work, so that its energy is that of a drive on time and no drive on time costs less than
 -- its bound, whoever wrote it: status 0, with energy and bound

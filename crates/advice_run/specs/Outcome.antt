@@ -1,18 +1,18 @@
 -- What a run of the program leaves: its status and what it writes, and when a fault may come.
-use Rattle.std.specs.Prelude.{ℕ, ◌≡◌, ◌≤◌, ◌++◌, ◌==◌, ℤ, List, [], Option, Some, None, Result, Ok, Err, String, string_bytes, codes, drop, if◌then◌else◌}
-use Rattle.std.specs.Prelude.{length, map, take, ◌⊎◌}
-use Rattle.std.specs.declared.alloc.Global.{Global}
+use Rattle.std.specs.Prelude.{ℕ, ◌≡◌, ◌++◌, ℤ, List, Option, None, codes, length, ◌⊎◌}
 use Rattle.line_file.specs.declared.line.Line.{Line}
 use Rattle.line_file.specs.declared.service.Service.{Service}
 use Rattle.train_file.specs.declared.train.Train.{Train}
 use Rattle.rail_specs.specs.Rules.{Rules}
 use Rattle.rail_specs.specs.Cost.{regained_cost, traction_cost}
 use Rattle.rail_base.specs.Texts.{line as text_line}
-use Rattle.edge_io.specs.Faults.{Told, Appends}
+use Rattle.edge_io.specs.Faults.{Told}
 use Rattle.command_files.specs.Files.{MayAnswer}
 use Rattle.plan_files.specs.Kinds.{PlanEnds, PlanSays, RouteEnds, RouteSays}
 use Rattle.plan_files.specs.FreshRules.{FreshRules, IsRulesRefusal}
-use Rattle.advice_run.specs.Check.{CheckEnds, CheckSays, IsReportAnswer}
+use Rattle.run_parts.specs.Reports.{CheckEnds, CheckSays}
+use Rattle.run_parts.specs.Runs.{regeneration_of}
+use Rattle.advice_run.specs.Check.{IsReportAnswer}
 use Rattle.advice_run.specs.Plan.{IsPlanAnswer}
 use Rattle.advice_run.specs.Sample.{IsSampleAnswer}
 use Rattle.advice_run.specs.Words.{Command, Usage, Route, Plan, Check, Sample}
@@ -32,10 +32,6 @@ usage_text =
 abbrev pub IsRulesAnswer : (ℤ → ℤ) → ℕ → ℕ → Option ℕ → ℕ → Rules → ℕ → List ℕ → Type 0
 IsRulesAnswer cost splits tolerance regeneration counted r status text =
     (counted ≡ length r.steps) × IsPlanAnswer cost r splits tolerance regeneration status text
-
--- what a train's file says of the share that its brakes give back, in per mille: version 2 says one
-abbrev pub regeneration_of : Train → Option ℕ
-regeneration_of train = if train.version == 2 then Some train.regeneration else None
 
 -- the answer to a line, a train and a service, with a grid of this step, with so many splits, at this tolerance: that to their joined
 -- rules, or the refusal of these
@@ -71,23 +67,6 @@ MayWrite (Check line train service report step) told before now counted status t
     (λ said. IsJoinedCheck said.0 said.1.0 said.1.1.0 said.1.1.1.0 step counted) status text
 MayWrite (Sample n splits tolerance) told before now counted status text = IsSampleAnswer n splits tolerance counted status text
 
--- a whole text that the run may write was written, with its own status
-pub record Wrote (command : Command) (told : List ℕ → Told) (before now : List ℕ → ℕ)
-    (counted : ℕ) (was is : Option (List ℕ)) (status : ℕ) : Type 0 where
-  pub text : List ℕ
-  pub may : MayWrite command told before now counted status text
-  pub appended : Appends was text is
-
--- the front of a text that the run may write, with a status of its own, was written
-pub record WroteFront (command : Command) (told : List ℕ → Told) (before now : List ℕ → ℕ)
-    (counted : ℕ) (was is : Option (List ℕ)) : Type 0 where
-  pub text : List ℕ
-  pub status : ℕ
-  pub may : MayWrite command told before now counted status text
-  pub count : ℕ
-  pub within : count ≤ length text
-  pub appended : Appends was (take count text) is
-
 -- the words name this file
 abbrev pub Names : Command → List ℕ → Type 0
 Names Usage name = ⊥
@@ -95,10 +74,3 @@ Names (Route file splits tolerance) name = name ≡ file
 Names (Plan line train service step splits tolerance) name = (name ≡ line) ⊎ (name ≡ train) ⊎ (name ≡ service)
 Names (Check line train service report step) name = (name ≡ line) ⊎ (name ≡ train) ⊎ (name ≡ service) ⊎ (name ≡ report)
 Names (Sample n splits tolerance) name = ⊥
-
--- ---- the words of the system
-
--- the words of a program's arguments: all behind the first, which is the program's name, and none where the arguments are no texts
-abbrev pub words_behind : {A E : Type 0} → (A → List (String Global)) → Result A E → List (List ℕ)
-words_behind items (Ok args) = drop 1 (map string_bytes (items args))
-words_behind items (Err e) = []

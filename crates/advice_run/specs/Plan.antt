@@ -1,7 +1,7 @@
 -- The answer to a plan: which text and which status the rules of a run allow.
 use Rattle.std.specs.Prelude.{ℕ, ◌≡◌, ℤ, List, Option, Ok, ◌⊎◌, if◌then◌else◌}
-use Rattle.rail_specs.specs.Rules.{Rules, IsGreatestDrive, NoDrive, timing_at}
-use Rattle.rail_specs.specs.Times.{NoneOnTime, IsFirstLate, arrival_up}
+use Rattle.rail_specs.specs.Rules.{Rules}
+use Rattle.run_parts.specs.Runs.{IsNoDriveAnswer, IsSomeLateAnswer}
 use Rattle.certificate_checker.specs.Holds.{Holds}
 use Rattle.dual_certificate.specs.declared.certificate.Certificate.{Certificate}
 use Rattle.dual_certificate.specs.Grammar.{certificate_in}
@@ -10,21 +10,7 @@ use Rattle.dual_certificate.specs.Text.{IsCertificate}
 use Rattle.planner.specs.Certificates.{IsCertificateOf}
 use Rattle.planner.specs.Plans.{IsSomePlan}
 use Rattle.planner.specs.declared.answer.Plan.{Plan as PlanData}
-use Rattle.drive_report.specs.Report.{no_drive_text, late_text, report_text}
-
--- there is no drive: status 4
-pub record IsNoDriveAnswer (r : Rules) (status : ℕ) (text : List ℕ) : Type 0 where
-  pub none : NoDrive r
-  pub ends : status ≡ 4
-  pub says : text ≡ no_drive_text
-
--- there is a drive and none is on time: status 5, with the first timing point that the greatest drive reaches too late
-pub record IsLateAnswer (r : Rules) (status : ℕ) (text : List ℕ) (speeds : List ℕ) (j : ℕ) : Type 0 where
-  pub greatest : IsGreatestDrive r speeds
-  pub none : NoneOnTime r
-  pub first : IsFirstLate r speeds j
-  pub ends : status ≡ 5
-  pub says : text ≡ late_text r j (arrival_up r speeds (timing_at r j).point)
+use Rattle.drive_report.specs.Report.{report_text}
 
 -- a plan: the text is the report of its certificate, which holds, and which whoever checks the text reads; status 0 where the gap is met, 1
 -- where it is open
@@ -47,5 +33,5 @@ IsReported cost r splits tolerance regeneration status text p =
 abbrev pub IsPlanAnswer : (ℤ → ℤ) → Rules → ℕ → ℕ → Option ℕ → ℕ → List ℕ → Type 0
 IsPlanAnswer cost r splits tolerance regeneration status text =
     IsNoDriveAnswer r status text
-    ⊎ (((speeds : List ℕ) × ((j : ℕ) × IsLateAnswer r status text speeds j))
+    ⊎ (IsSomeLateAnswer r status text
     ⊎ ((p : PlanData) × IsReported cost r splits tolerance regeneration status text p))

@@ -7,7 +7,8 @@ use Rattle.bound_specs.specs.Cells.{cell_count}
 use Rattle.planner.specs.declared.answer.Plan.{Plan as PlanData}
 use Rattle.drive_report.specs.Report.{gap_line}
 use Rattle.sample_rules.specs.SampleRules.{IsSampleRules}
-use Rattle.advice_run.specs.Plan.{IsLateAnswer, IsNoDriveAnswer, IsReported}
+use Rattle.run_parts.specs.Runs.{IsNoDriveAnswer, IsSomeLateAnswer}
+use Rattle.advice_run.specs.Plan.{IsReported}
 
 -- the summary of a plan for sample n: how many points its grid has, whether the gap is met, the energy and the bound in 0.5 microjoule, how
 -- many cells the bound has and how many splits made them
@@ -27,7 +28,7 @@ pub record IsSummary (n : ℕ) (r : Rules) (splits tolerance status : ℕ) (text
 abbrev pub IsSummaryAnswer : ℕ → Rules → ℕ → ℕ → ℕ → List ℕ → Type 0
 IsSummaryAnswer n r splits tolerance status text =
     IsNoDriveAnswer r status text
-    ⊎ (((speeds : List ℕ) × ((j : ℕ) × IsLateAnswer r status text speeds j))
+    ⊎ (IsSomeLateAnswer r status text
     ⊎ ((p : PlanData) × IsSummary n r splits tolerance status text p))
 
 -- the answer to sample n, with so many splits, at this tolerance, where so many steps were counted: as many as its rules have. Its rules are

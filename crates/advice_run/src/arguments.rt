@@ -1,47 +1,23 @@
 //! The program over what the system gives: the words of its arguments, and a run.
 
-ghost use Rattle.std.specs.Prelude.{◌≡◌, ◌≢◌, ◌≤◌, ◌-◌, ℕ, List, IfErr, IsErr, IfOk, drop, map, string_bytes};
+ghost use Rattle.std.specs.Prelude.{◌≡◌, ◌≢◌, ◌≤◌, ◌-◌, ℕ, List, IfErr};
 ghost use Rattle.std.specs.IoError.{error_kind};
 ghost use Rattle.std.specs.Vec.Iter.{into_iter_items};
 ghost use Rattle.edge_io.specs.Faults.{Rose};
 ghost use Rattle.advice_run.specs.Words.{command_of};
-ghost use Rattle.advice_run.specs.Outcome.{Names, Wrote, WroteFront, words_behind};
+ghost use Rattle.run_parts.specs.Runs.{Wrote, WroteFront, words_behind};
+ghost use Rattle.advice_run.specs.Outcome.{MayWrite, Names};
 
 use crate::program::run;
-use crate::words::Words;
 use command_files::status;
 use edge_io::{Shelf, Sink};
 use proposers::Proposer;
-use std::alloc::{AllocError, Global};
+use run_parts::words_of;
+use std::alloc::Global;
 use std::io::ErrorKind;
 use std::sync::ledger::Ledger;
 use std::{env, io};
 use step_energy::Steps;
-
-/// The arguments behind the first, all of them, whatever they begin with.
-fn words_after_name(alloc: Global, args: env::Args) -> Result<Words, AllocError>
-    ensures { IfOk result (λ words. words ≡ drop 1 (map string_bytes (into_iter_items args))) }
-{
-    let mut args = args;
-    args.next();
-    let mut words = Words::new(alloc);
-    while let Some(arg) = args.next() {
-        words.push(arg.as_str())?;
-    }
-    Ok(words)
-}
-
-/// The words of a program's arguments. Arguments that are no texts are read as no words at all, which ask for nothing.
-fn words_of(alloc: Global, args: io::Result<env::Args>) -> Result<Words, AllocError>
-    ensures words { IfOk result (λ words. words ≡ words_behind into_iter_items args) }
-    ensures memory { IfErr args (λ e. error_kind e ≡ ErrorKind.OutOfMemory → IsErr result) }
-{
-    match args {
-        Ok(args) => words_after_name(alloc, args),
-        Err(error) if error.kind() == ErrorKind::OutOfMemory => Err(AllocError),
-        Err(_) => Ok(Words::new(alloc)),
-    }
-}
 
 /// Runs the program over the arguments that the system gives: `run` with the words behind the first, which is the program's name. The
 /// status is that of `run`, and 8 where there is no memory for the words.
@@ -58,14 +34,14 @@ pub fn run_arguments<S: Shelf, K: Sink, L: Ledger>(
     // Where no put failed the whole text is written. It is the usage, the answer to the files, or a read fault whose
     // cause is that the count of the file's own name rose in this call.
     ensures whole { result ≢ 7 → result ≢ 8 →
-        Wrote (command_of (words_behind into_iter_items args)) (S.contents shelf.old) (S.faults shelf.old) (S.faults shelf.new)
-        (steps.new - steps.old) (K.written sink.old) (K.written sink.new) result }
+        Wrote (MayWrite (command_of (words_behind into_iter_items args)) (S.contents shelf.old) (S.faults shelf.old) (S.faults shelf.new)
+        (steps.new - steps.old)) (K.written sink.old) (K.written sink.new) result }
 
     // A write fault comes only where the sink's count rose in this call, and the front of a text of this very input is written.
     ensures write_fault { result ≡ 7 → Rose (K.faults sink.old) (K.faults sink.new) }
     ensures front { result ≡ 7 →
-        WroteFront (command_of (words_behind into_iter_items args)) (S.contents shelf.old) (S.faults shelf.old) (S.faults shelf.new)
-        (steps.new - steps.old) (K.written sink.old) (K.written sink.new) }
+        WroteFront (MayWrite (command_of (words_behind into_iter_items args)) (S.contents shelf.old) (S.faults shelf.old) (S.faults shelf.new)
+        (steps.new - steps.old)) (K.written sink.old) (K.written sink.new) }
 
     ensures no_memory { result ≡ 8 → K.written sink.new ≡ K.written sink.old }
 

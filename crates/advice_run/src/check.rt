@@ -4,36 +4,24 @@ ghost use Rattle.std.specs.Prelude.{◌≡◌, ◌≢◌, ◌≤◌, ◌-◌, �
 ghost use Rattle.dual_certificate.specs.Text.{IsCertificate};
 ghost use Rattle.line_file.specs.Shape.{IsLine, IsService};
 ghost use Rattle.train_file.specs.Shape.{IsTrain};
-ghost use Rattle.advice_run.specs.Check.{IsCertificateAnswer, IsRefusedIn, IsReportAnswer};
+ghost use Rattle.advice_run.specs.Check.{IsCertificateAnswer, IsReportAnswer};
 ghost use Rattle.advice_run.specs.Words.{Check};
 ghost use Rattle.advice_run.specs.Outcome.{IsJoinedCheck, MayWrite, Names};
 
-use crate::command_line::CheckWords;
-use crate::report_file::ReportFile;
 use certificate_checker::check;
-use certificate_words::{certified_text, fault_words, refused_words};
-use command_files::{Answer, File, FileList, Stage, refusal, status};
+use certificate_words::refused_words;
+use command_files::{Answer, File, FileList, Stage, status};
 use drive_rules::Rules;
 use dual_certificate::{Certificate, certificate_part, read};
 use edge_io::Shelf;
 use line_file::{Line, Service};
 use plan_files::{LineFile, ServiceFile, TrainFile, fresh_rules};
 use rail_base::{Regained, StepCost};
+use run_parts::{CheckWords, ReportFile, certified_text, fault_words, refused_in};
 use std::alloc::{AllocError, Global};
 use std::sync::ledger::Ledger;
 use step_energy::Steps;
 use train_file::Train;
-
-/// The answer that the certificate is refused in these words.
-fn refused_in(alloc: Global, words: &[u8]) -> Result<Answer, AllocError>
-    ensures { IfOk result (λ a. IsRefusedIn words.now a.status a.text.items) }
-{
-    let refused = refusal(alloc, b"certificate", words)?;
-    Ok(Answer {
-        status: status::CERTIFICATE_REFUSED,
-        text: refused.text,
-    })
-}
 
 /// The answer to a certificate.
 fn certificate_answer<C: StepCost>(

@@ -6,15 +6,15 @@ ghost use Rattle.advice_run.specs.Words.{command_by, command_of};
 ghost use Rattle.advice_run.specs.Outcome.{MayWrite, Names};
 
 use crate::check::answer_check;
-use crate::command_line::{read_check_words, read_plan_words, read_route_words, read_sample_words};
+use crate::command_line::{read_plan_words, read_route_words, read_sample_words};
 use crate::plan::answer_plan;
 use crate::route::answer_route;
 use crate::sample::answer_sample;
 use crate::usage::usage;
-use crate::words::Words;
 use command_files::Answer;
 use edge_io::Shelf;
 use proposers::Proposer;
+use run_parts::{Words, read_check_words};
 use std::alloc::{AllocError, Global};
 use std::sync::ledger::Ledger;
 use step_energy::Steps;

@@ -1,45 +1,16 @@
 //! The words of a command line, read by clap: one simple command for each first word.
 
-ghost use Rattle.std.specs.Prelude.{◌≡◌, ◌≤◌, ◌<◌, ◌^◌, ℕ, Some, true, IfOk, IfSome, MatchOption, option_map};
-ghost use Rattle.clap.specs.Words.{app_of, found_of, is_simple_and_free, rows_of, with_rule};
-ghost use Rattle.advice_run.specs.Words.{Check, Plan, Route, Usage, check_app, check_of_rows, number_in, option, plan_app, plan_of_rows};
-ghost use Rattle.advice_run.specs.Words.{positional, route_app, route_of_rows, taken, value_of};
+ghost use Rattle.std.specs.Prelude.{◌≡◌, ◌≤◌, Some, IfOk, MatchOption};
+ghost use Rattle.clap.specs.Words.{app_of, found_of, rows_of};
+ghost use Rattle.run_parts.specs.Words.{taken};
+ghost use Rattle.advice_run.specs.Words.{Plan, Route, Usage, plan_app, plan_of_rows, route_app, route_of_rows};
 
 mod sample_words;
 
-use crate::words::Words;
-use clap::error::ErrorKind;
-use clap::{Arg, ArgAction, ArgMatches, Command};
-use rail_base::read_digits;
+use clap::{ArgMatches, Command};
+use run_parts::{Words, matches_of, number_in, value_of, with_name, with_option};
 pub use sample_words::{SampleWords, read_sample_words};
 use std::alloc::{AllocError, Global};
-
-/// A command with one more required positional.
-fn with_name<'a>(
-    alloc: Global,
-    command: Command<'a>,
-    id: &'a str,
-) -> Result<Command<'a>, AllocError>
-    ensures { IfOk result (λ c. app_of c ≡ with_rule (app_of command.entry) (positional id.entry.now)) }
-{
-    command.arg(Arg::new(alloc, id).required(true).action(ArgAction::Set))
-}
-
-/// A command with one more long option.
-fn with_option<'a>(
-    alloc: Global,
-    command: Command<'a>,
-    id: &'a str,
-    standard: &'a str,
-) -> Result<Command<'a>, AllocError>
-    ensures { IfOk result (λ c. app_of c ≡ with_rule (app_of command.entry) (option id.entry.now standard.entry.now)) }
-{
-    let arg = Arg::new(alloc, id)
-        .long(id)
-        .action(ArgAction::Set)
-        .default_value(standard);
-    command.arg(arg)
-}
 
 /// The command `route FILE [--splits N] [--tolerance N]`.
 fn route_command<'a>(alloc: Global) -> Result<Command<'a>, AllocError>
@@ -64,57 +35,6 @@ fn plan_command<'a>(alloc: Global) -> Result<Command<'a>, AllocError>
     let command = with_option(alloc, command, "splits", "2000")?;
     let command = with_option(alloc, command, "tolerance", "10")?;
     Ok(command)
-}
-
-/// The command `check LINE TRAIN SERVICE REPORT [--step N]`.
-fn check_command<'a>(alloc: Global) -> Result<Command<'a>, AllocError>
-    ensures { IfOk result (λ c. app_of c ≡ check_app) }
-{
-    let command = Command::new(alloc, "check");
-    let command = with_name(alloc, command, "line")?;
-    let command = with_name(alloc, command, "train")?;
-    let command = with_name(alloc, command, "service")?;
-    let command = with_name(alloc, command, "report")?;
-    let command = with_option(alloc, command, "step", "100")?;
-    Ok(command)
-}
-
-/// The matches of a command, or none where it refuses the words.
-fn matches_of<'a>(
-    command: Command<'a>,
-    words: &'a Words,
-) -> Result<Option<ArgMatches<'a>>, AllocError>
-    requires { is_simple_and_free (app_of command) ≡ true }
-    ensures { IfOk result (λ r. option_map (λ m. rows_of (found_of m)) r ≡ taken (app_of command.entry) words.entry.now) }
-{
-    match command.try_get_matches_from(words.texts()) {
-        Ok(matches) => Ok(Some(matches)),
-        Err(error) => match error.kind() {
-            ErrorKind::OutOfMemory => Err(AllocError),
-            _ => Ok(None),
-        },
-    }
-}
-
-/// A value of the matches.
-fn value_of<'a>(matches: &ArgMatches<'a>, id: &str) -> &'a str
-    ensures { result.now ≡ value_of id.now (rows_of (found_of matches.now)) }
-{
-    match matches.get_str(id) {
-        Some(text) => text,
-        None => "",
-    }
-}
-
-/// The number of 1 to 10 decimal digits in a range.
-fn number_in(text: &str, low: u32, high: u32) -> Option<u32>
-    ensures value { result ≡ number_in low high text.now }
-    ensures within { IfSome result (λ n. (low ≤ n) × (n ≤ high)) }
-{
-    match read_digits(text.as_bytes(), 10) {
-        Some(number) if low as u64 <= number && number <= high as u64 => Some(number as u32),
-        _ => None,
-    }
 }
 
 /// The names and numbers of the command `route`.
@@ -209,51 +129,5 @@ fn plan_words<'a>(matches: &ArgMatches<'a>) -> Option<PlanWords<'a>>
         step,
         splits,
         tolerance,
-    })
-}
-
-/// The names and the number of the command `check`.
-#[derive(Drop)]
-pub struct CheckWords<'a> {
-    /// The name of the line's file.
-    pub line: &'a str,
-    /// The name of the train's file.
-    pub train: &'a str,
-    /// The name of the service's file.
-    pub service: &'a str,
-    /// The name of the report's file.
-    pub report: &'a str,
-    /// The step of the grid, m, 10 to 1,000.
-    pub step: u32,
-    pub ghost step_within: { (10 ≤ step) × (step ≤ 1000) },
-}
-
-/// The names and the number of the command `check`, or none where the words are refused.
-pub fn read_check_words<'a>(
-    alloc: Global,
-    words: &'a Words,
-) -> Result<Option<CheckWords<'a>>, AllocError>
-    ensures { IfOk result (λ r. MatchOption r (check_of_rows (taken check_app words.entry.now) ≡ Usage)
-        (λ w. check_of_rows (taken check_app words.entry.now) ≡ Check w.line.now w.train.now w.service.now w.report.now w.step)) }
-{
-    let command = check_command(alloc)?;
-    match matches_of(command, words)? {
-        Some(matches) => Ok(check_words(&matches)),
-        None => Ok(None),
-    }
-}
-
-/// What the matches of the command `check` say, or none where the number is refused.
-fn check_words<'a>(matches: &ArgMatches<'a>) -> Option<CheckWords<'a>>
-    ensures { MatchOption result (check_of_rows (Some (rows_of (found_of matches.now))) ≡ Usage)
-        (λ w. check_of_rows (Some (rows_of (found_of matches.now))) ≡ Check w.line.now w.train.now w.service.now w.report.now w.step) }
-{
-    let step = number_in(value_of(matches, "step"), 10, 1000)?;
-    Some(CheckWords {
-        line: value_of(matches, "line"),
-        train: value_of(matches, "train"),
-        service: value_of(matches, "service"),
-        report: value_of(matches, "report"),
-        step,
     })
 }

@@ -7,13 +7,11 @@ mod command;
 mod command_line;
 mod plan;
 mod program;
-mod report_file;
 mod route;
 mod rules;
 mod sample;
 mod usage;
-mod words;
 
 pub use arguments::run_arguments;
 pub use program::run;
-pub use words::Words;
+pub use run_parts::Words;

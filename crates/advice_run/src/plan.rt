@@ -4,7 +4,7 @@ ghost use Rattle.std.specs.Prelude.{◌≡◌, ◌≢◌, ◌≤◌, ◌-◌, �
 ghost use Rattle.line_file.specs.Shape.{IsLine, IsService};
 ghost use Rattle.train_file.specs.Shape.{IsTrain};
 ghost use Rattle.advice_run.specs.Words.{Plan};
-ghost use Rattle.advice_run.specs.Outcome.{IsJoinedAnswer, MayWrite, Names, regeneration_of};
+ghost use Rattle.advice_run.specs.Outcome.{IsJoinedAnswer, MayWrite, Names};
 
 use crate::command_line::PlanWords;
 use crate::rules::rules_answer;
@@ -15,21 +15,11 @@ use plan_files::{LineFile, ServiceFile, TrainFile, fresh_rules};
 use planner::Options;
 use proposers::Proposer;
 use rail_base::Regained;
+use run_parts::regeneration_of;
 use std::alloc::{AllocError, Global};
 use std::sync::ledger::Ledger;
 use step_energy::Steps;
 use train_file::Train;
-
-/// What a train's file says of the share that its brakes give back, in per mille: version 2 says one.
-fn regeneration_of(train: &Train) -> Option<u16>
-    ensures { result ≡ regeneration_of train.now }
-{
-    if train.version == 2 {
-        Some(train.regeneration)
-    } else {
-        None
-    }
-}
 
 /// The answer to a line, a train and a service. The boxes propose drives.
 fn joined_answer<L: Ledger>(

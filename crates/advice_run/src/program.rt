@@ -3,13 +3,14 @@
 ghost use Rattle.std.specs.Prelude.{◌≡◌, ◌≢◌, ◌≤◌, ◌-◌, ℕ, List};
 ghost use Rattle.edge_io.specs.Faults.{Rose};
 ghost use Rattle.advice_run.specs.Words.{command_of};
-ghost use Rattle.advice_run.specs.Outcome.{Wrote, WroteFront, Names};
+ghost use Rattle.run_parts.specs.Runs.{Wrote, WroteFront};
+ghost use Rattle.advice_run.specs.Outcome.{MayWrite, Names};
 
 use crate::command::answer;
-use crate::words::Words;
 use command_files::status;
 use edge_io::{Shelf, Sink, put_all};
 use proposers::Proposer;
+use run_parts::Words;
 use std::alloc::Global;
 use std::sync::ledger::Ledger;
 use step_energy::Steps;
@@ -41,14 +42,14 @@ pub fn run<S: Shelf, K: Sink, L: Ledger>(
     // Where no put failed the whole text is written. It is the usage, the answer to the files, or a read fault whose
     // cause is that the count of the file's own name rose in this call.
     ensures whole { result ≢ 7 → result ≢ 8 →
-        Wrote (command_of words.now) (S.contents shelf.old) (S.faults shelf.old) (S.faults shelf.new)
-        (steps.new - steps.old) (K.written sink.old) (K.written sink.new) result }
+        Wrote (MayWrite (command_of words.now) (S.contents shelf.old) (S.faults shelf.old) (S.faults shelf.new)
+        (steps.new - steps.old)) (K.written sink.old) (K.written sink.new) result }
 
     // A write fault comes only where the sink's count rose in this call, and the front of a text of this very input is written.
     ensures write_fault { result ≡ 7 → Rose (K.faults sink.old) (K.faults sink.new) }
     ensures front { result ≡ 7 →
-        WroteFront (command_of words.now) (S.contents shelf.old) (S.faults shelf.old) (S.faults shelf.new)
-        (steps.new - steps.old) (K.written sink.old) (K.written sink.new) }
+        WroteFront (MayWrite (command_of words.now) (S.contents shelf.old) (S.faults shelf.old) (S.faults shelf.new)
+        (steps.new - steps.old)) (K.written sink.old) (K.written sink.new) }
 
     ensures no_memory { result ≡ 8 → K.written sink.new ≡ K.written sink.old }
 

@@ -5,11 +5,12 @@ ghost use Rattle.planner.specs.Plans.{IsSomePlan};
 ghost use Rattle.advice_run.specs.Plan.{IsPlanAnswer, IsReported};
 
 use command_files::{Answer, status};
-use drive_report::{late_text, no_drive_text, report};
+use drive_report::report;
 use drive_rules::Rules;
 use planner::{Answer as Planned, Options, Plan, certificate, plan};
 use proposers::{Proposer, drop_silent};
 use rail_base::StepCost;
+use run_parts::{late_answer, no_drive_answer};
 use std::alloc::{AllocError, Global};
 
 /// The answer to the rules of a run at a cost of work: a plan, with so many splits of cells and at this tolerance. The boxes propose
@@ -28,20 +29,8 @@ pub fn rules_answer<C: StepCost>(
     ensures { IfOk result (λ a. IsPlanAnswer (C.cost cost.now) rules.now options.splits options.tolerance regeneration a.status a.text.items) }
 {
     match plan(alloc, rules, cost, options, boxes)? {
-        Planned::NoDrive => {
-            let text = no_drive_text(alloc)?;
-            Ok(Answer {
-                status: status::NO_DRIVE,
-                text,
-            })
-        }
-        Planned::Late { timing, arrival } => {
-            let text = late_text(alloc, rules, timing as usize, arrival)?;
-            Ok(Answer {
-                status: status::LATE,
-                text,
-            })
-        }
+        Planned::NoDrive => no_drive_answer(alloc, rules),
+        Planned::Late { timing, arrival } => late_answer(alloc, rules, timing, arrival),
         Planned::Drive(plan) => {
             drop_silent(boxes);
             plan_answer(alloc, rules, cost, options, regeneration, &plan)

@@ -12,11 +12,11 @@ ghost use Rattle.advice_run.specs.Sample.{IsSummaryAnswer, summary_text};
 use crate::command_line::SampleWords;
 use crate::rules::plan_answer;
 use command_files::{Answer, status};
-use drive_report::{late_text, no_drive_text};
 use drive_rules::Rules;
 use planner::{Answer as Planned, Options, Plan, plan};
 use proposers::{Proposer, drop_silent};
 use rail_base::{Traction, put_line, put_number_line};
+use run_parts::{late_answer, no_drive_answer};
 use sample_rules::sample_rules;
 use std::alloc::{AllocError, Global};
 use std::sync::ledger::Ledger;
@@ -99,20 +99,8 @@ fn summary_answer(
     ensures { IfOk result (λ a. IsSummaryAnswer number rules.now options.splits options.tolerance a.status a.text.items) }
 {
     match plan(alloc, rules, &Traction, options, boxes)? {
-        Planned::NoDrive => {
-            let text = no_drive_text(alloc)?;
-            Ok(Answer {
-                status: status::NO_DRIVE,
-                text,
-            })
-        }
-        Planned::Late { timing, arrival } => {
-            let text = late_text(alloc, rules, timing as usize, arrival)?;
-            Ok(Answer {
-                status: status::LATE,
-                text,
-            })
-        }
+        Planned::NoDrive => no_drive_answer(alloc, rules),
+        Planned::Late { timing, arrival } => late_answer(alloc, rules, timing, arrival),
         Planned::Drive(plan) => {
             drop_silent(boxes);
             plan_summary(alloc, number, rules, options, &plan)

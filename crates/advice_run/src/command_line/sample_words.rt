@@ -2,11 +2,11 @@
 
 ghost use Rattle.std.specs.Prelude.{◌≡◌, ◌≤◌, Some, IfOk, MatchOption};
 ghost use Rattle.clap.specs.Words.{app_of, found_of, rows_of};
-ghost use Rattle.advice_run.specs.Words.{Sample, Usage, sample_app, sample_of_rows, taken};
+ghost use Rattle.run_parts.specs.Words.{taken};
+ghost use Rattle.advice_run.specs.Words.{Sample, Usage, sample_app, sample_of_rows};
 
-use super::{matches_of, number_in, value_of, with_name, with_option};
-use crate::words::Words;
 use clap::{ArgMatches, Command};
+use run_parts::{Words, matches_of, number_in, value_of, with_name, with_option};
 use std::alloc::{AllocError, Global};
 
 /// The command `sample N [--splits N] [--tolerance N]`.

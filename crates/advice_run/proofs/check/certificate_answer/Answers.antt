@@ -1,6 +1,7 @@
 use Rattle.std.proofs.Common.{◌∙◌, List, ℕ, inr, subst}
 use Rattle.command_files.specs.declared.answer.Answer.{Answer}
-use Rattle.advice_run.specs.Check.{IsCertificateAnswer, IsRefusedIn}
+use Rattle.run_parts.specs.Reports.{IsRefusedIn}
+use Rattle.advice_run.specs.Check.{IsCertificateAnswer}
 use Rattle.advice_run.proofs.AnswerLemmas.{ok_map}
 use Rattle.advice_run.proofs.check.certificate_answer.Goals as goal
 

@@ -1,7 +1,7 @@
 use Rattle.std.proofs.Common.{arith, inr}
 use Rattle.command_files.specs.declared.answer.Answer.{Answer}
 use Rattle.rail_specs.specs.Cost.{regained_cost}
-use Rattle.advice_run.specs.Outcome.{regeneration_of}
+use Rattle.run_parts.specs.Runs.{regeneration_of}
 use Rattle.advice_run.specs.Plan.{IsPlanAnswer}
 use Rattle.advice_run.proofs.AnswerLemmas.{ok_map}
 use Rattle.advice_run.proofs.plan.joined_answer.Goals as goal

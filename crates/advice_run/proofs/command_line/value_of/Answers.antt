@@ -1,9 +1,0 @@
-use Rattle.clap.specs.Words.{found_of}
-use Rattle.advice_run.proofs.WordsLemmas.{value-none, value-some}
-use Rattle.advice_run.proofs.command_line.value_of.Goals as goal
-
-pub returns-in-Some : goal.returns-in-Some
-returns-in-Some c = value-some (found_of c.args.matches.now) c.args.id.now c.in-Some.text.now (rw c.in-Some.is at c.get_str.ensures)
-
-pub returns-in-None : goal.returns-in-None
-returns-in-None c = value-none (found_of c.args.matches.now) c.args.id.now (rw c.in-None.is at c.get_str.ensures)
