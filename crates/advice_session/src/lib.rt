@@ -7,6 +7,7 @@
 
 mod at;
 mod fault;
+mod latest;
 mod points;
 mod restrictions;
 mod session;
