@@ -1,16 +1,12 @@
 -- Calls of which one has another latest time: they are alike in all else.
-use Rattle.std.proofs.Common.{ℕ, zero, suc, ◌≡◌, ◌≢◌, ◌<◌, ◌≤◌, ◌+◌, ◌-◌, ◌&&◌, ◌||◌, ◌==◌, ◌∙◌, Bool, true, false, List, [], ◌∷◌, length, get_or, Option, Some, None, refl, ap, arith, sym, subst, inl, inr, get_or-set_other, get_or-set_same, length-set, drop, nat_le, is_some, is_none}
-use Rattle.std.specs.Prelude.{map, slice_set, count_by, cond, IsSome, IfSome}
-use Rattle.std.proofs.lemmas.Bool.{cases_eq, cases_Bool}
-use Rattle.std.proofs.lemmas.Bool.Decides.{nat_tests}
-use Rattle.std.proofs.lemmas.List.Sums.{sum_by-set}
+use Rattle.std.proofs.Common.{ℕ, zero, suc, ◌≡◌, ◌≢◌, ◌<◌, ◌≤◌, ◌∙◌, Bool, List, [], ◌∷◌, length, get_or, Some, refl, ap, sym, subst, inl, inr, get_or-set_other, get_or-set_same, length-set}
+use Rattle.std.specs.Prelude.{map, slice_set}
+use Rattle.std.proofs.lemmas.Bool.{cases_eq}
 use Rattle.line_file.specs.declared.calls.Call.{Call}
 use Rattle.line_file.specs.declared.line.Line.{Line}
-use Rattle.line_file.specs.ServiceText.{latest_count, no_call}
-use Rattle.line_file.specs.Shape.{IsCall, IsService, call_at}
-use Rattle.joined_rules.specs.Joined.{ForNone, HasStop, IsCallAt, IsOutside, IsPointOf, IsTooClose, dwell_of, is_stop_call}
+use Rattle.line_file.specs.Shape.{call_at}
+use Rattle.joined_rules.specs.Joined.{ForNone, HasStop, IsOutside, IsPointOf, IsTooClose, dwell_of, is_stop_call}
 use Rattle.advice_session.specs.Data.{with_latest_time}
-use Rattle.advice_session.specs.Faults.{is_too_many}
 
 -- the same calls but for their latest times
 pub record Alike (a b : List Call) : Type 0 where

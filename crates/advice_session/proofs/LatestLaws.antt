@@ -1,6 +1,6 @@
 -- The latest time of a call that is set: the service, the timing points and the rules.
-use Rattle.std.proofs.Common.{ℕ, ℤ, zero, suc, pos, ◌≡◌, ◌≢◌, ◌<◌, ◌≤◌, ◌+◌, ◌-◌, ◌*◌, ◌-ℤ◌, ◌*ℤ◌, to_z, of_z, w64, ◌&&◌, ◌==◌, ◌∙◌, Bool, true, false, List, [], ◌∷◌, length, get_or, Option, Some, None, refl, ap, arith, sym, subst, inl, inr, take, drop, length-drop, nat_le, is_some, is_none}
-use Rattle.std.specs.Prelude.{count_by, cond, IfSome, IsSome, slice_set, map, ◌++◌}
+use Rattle.std.proofs.Common.{ℕ, ℤ, zero, suc, pos, ◌≡◌, ◌≢◌, ◌<◌, ◌≤◌, ◌+◌, ◌-◌, ◌*◌, ◌-ℤ◌, ◌*ℤ◌, to_z, of_z, w64, ◌&&◌, ◌==◌, ◌∙◌, true, false, List, [], ◌∷◌, length, get_or, Option, Some, None, refl, ap, arith, sym, subst, inl, inr, take, drop, length-drop, nat_le, is_some, is_none}
+use Rattle.std.specs.Prelude.{count_by, cond, IfSome, IsSome, map, ◌++◌}
 use Rattle.std.proofs.lemmas.Bool.{cases_eq, cases_Bool, cases_lt, lt-ltb, le-ltb}
 use Rattle.std.proofs.lemmas.Bool.Decides.{nat_tests}
 use Rattle.std.proofs.lemmas.Grind.{get_or_after_one}
@@ -15,7 +15,7 @@ use Rattle.line_file.specs.declared.line.Line.{Line}
 use Rattle.line_file.specs.declared.service.Service.{Service}
 use Rattle.train_file.specs.declared.train.Train.{Train}
 use Rattle.joined_rules.specs.declared.setup.Stretch.{Stretch}
-use Rattle.rule_parts.specs.Shaped.{IsShaped, Rises}
+use Rattle.rule_parts.specs.Shaped.{IsShaped}
 use Rattle.joined_rules.specs.Joined.{AreTimings, IsLatest, IsTimingOf, Joins, last_place, marks_of}
 use Rattle.joined_rules.specs.JoinedParts.{CallsRise, Rising}
 use Rattle.joined_rules.proofs.JoinedGrid.{call_place, first_is, index_of}
@@ -27,7 +27,7 @@ use Rattle.joined_rules.proofs.JoinedStops.{one_call}
 use Rattle.rule_changes.specs.Latest.{IsLatestSet, with_latest, with_latest_at}
 use Rattle.advice_session.specs.Data.{Data, IsSession, State, state_of, with_latest_time}
 use Rattle.advice_session.specs.Faults.{call_at_place, call_behind, is_too_many, point_behind}
-use Rattle.advice_session.proofs.CallLaws.{Alike, alike, same_apart, same_on_line, same_places, same_point, set_other, set_there}
+use Rattle.advice_session.proofs.CallLaws.{alike, same_apart, same_on_line, same_places, same_point, set_other, set_there}
 
 -- ---- how many timing points there are
 

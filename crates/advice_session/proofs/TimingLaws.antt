@@ -1,5 +1,5 @@
 -- How many timing points there are, also with one of them set.
-use Rattle.std.proofs.Common.{ℕ, zero, suc, ℤ, ◌≡◌, ◌<◌, ◌≤◌, ◌+◌, ◌-◌, ◌∙◌, ◌++◌, Bool, true, false, List, [], ◌∷◌, length, get_or, refl, ap, arith, sym, subst, inl, inr, nat_lt, length-append}
+use Rattle.std.proofs.Common.{ℕ, zero, suc, ℤ, ◌≡◌, ◌<◌, ◌≤◌, ◌+◌, List, [], ◌∷◌, length, get_or, arith, inl, inr, nat_lt, length-append}
 use Rattle.std.specs.List.{filter}
 use Rattle.std.proofs.lemmas.Bool.{cases_lt, lt-ltb, le-ltb}
 use Rattle.rail_specs.specs.declared.Timing.{Timing}

@@ -5,6 +5,7 @@
 //! row of a step is made anew but the one that the train's place cuts.
 #![tactic(auto)]
 
+mod apply;
 mod at;
 mod fault;
 mod latest;

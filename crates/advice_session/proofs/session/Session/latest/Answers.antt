@@ -1,4 +1,4 @@
-use Rattle.std.proofs.Common.{arith, ◌<◌, ◌≡◌, sym, subst}
+use Rattle.std.proofs.Common.{arith}
 use Rattle.advice_session.proofs.LatestLaws.{call_there}
 use Rattle.advice_session.proofs.session.Session.latest.Goals as goal
 

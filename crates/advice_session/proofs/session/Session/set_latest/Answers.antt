@@ -40,8 +40,8 @@ invariant_of-self-2 c =
     let p = point_found _ c.args.j c.point_behind-point.result c.items.result.now c.self.invariant there after c.point_behind-point.ensures.value c.items.ensures in
     let i = c.self.inside in
     let calls : c.set.new.self ≡ with_latest_time i.service.calls c.args.j c.args.seconds = c.set.ensures
-      ∙ ap (λ (cs : List Call). slice_set i.service.calls c.args.j (record { place = (call_at cs c.args.j).place; dwell = (call_at cs c.args.j).dwell; latest = Some c.args.seconds })) c.items.ensures in
+    ∙ ap (λ (cs : List Call). slice_set i.service.calls c.args.j (record { place = (call_at cs c.args.j).place; dwell = (call_at cs c.args.j).dwell; latest = Some c.args.seconds })) c.items.ensures in
     let value = latest_is c.args.seconds i.clock c.from.result c.from-2.result c.from.ensures c.from-2.ensures c.requires.small c.self.invariant.setup.clock in
     subst (λ (cs : List Call). IsSession (state_of i.line i.train (record { calls = cs }) i.step i.place i.speed i.clock i.names.items i.stretches.items c.set_latest.new.self)) (sym calls)
     (timed_session i.line i.train i.service i.step i.place i.speed i.clock i.names.items i.stretches.items i.rules c.set_latest.new.self c.args.j c.args.seconds _ _ c.self.invariant c.known.ensures
-      there after c.requires.small free p.2 p.3 value c.in_ok-set_latest.ensures.set c.in_ok-set_latest.ensures.others)
+    there after c.requires.small free p.2 p.3 value c.in_ok-set_latest.ensures.set c.in_ok-set_latest.ensures.others)
