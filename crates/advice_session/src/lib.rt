@@ -5,8 +5,10 @@
 //! row of a step is made anew but the one that the train's place cuts.
 #![tactic(auto)]
 
+mod apply;
 mod at;
 mod fault;
+mod latest;
 mod points;
 mod restrictions;
 mod session;
