@@ -1,7 +1,7 @@
 //! Sessions: a train under way, with the rules that its data give at each moment.
 //!
 //! A session keeps a line, a train and a service, where the train is, and the restrictions that stand. Events change these data, or are
-//! refused and change nothing (`specs/Faults.antt`). The rules of the data are kept with them, and changed in place: no
+//! refused and change nothing (`specs/Faults.antt`, `specs/Folds.antt`). The rules of the data are kept with them, and changed in place: no
 //! row of a step is made anew but the one that the train's place cuts.
 #![tactic(auto)]
 

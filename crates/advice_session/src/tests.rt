@@ -3,6 +3,7 @@ ghost use Rattle.std.specs.Prelude.{◌≡◌, ◌<◌};
 
 use crate::fault::SessionFault;
 use crate::session::Session;
+use event_file::Event;
 use line_file::{read_line, read_service};
 use std::alloc::Global;
 use std::marker::Brand;
@@ -52,8 +53,9 @@ fn is_work_site_kept<L: Ledger>(alloc: Global, blank: Blank) -> Option<bool>
     let lifted = session.lift("works", &mut steps).is_ok();
     let raised = first_limit(&session) == 1_000;
     let gone = session.lift("works", &mut steps);
+    let later = session.latest(200, 60, &mut steps).is_ok();
     let answers = taken == Err(SessionFault::NameTaken) && gone == Err(SessionFault::NoSuchName);
-    Some(stands && lowered && lifted && raised && answers)
+    Some(stands && lowered && lifted && raised && later && answers)
 }
 
 fn counted_work_site(alloc: Global) -> Option<bool> {
@@ -74,13 +76,21 @@ fn is_under_way<L: Ledger>(alloc: Global, blank: Blank) -> Option<bool>
     let mut steps = Steps::<L>::new(blank);
     let mut session = started(alloc, &mut steps)?;
     let stands = session.restrict("works", 0, 200, 800, &mut steps).is_ok();
-    let between = session.at(50, 900, 10, &mut steps).is_ok();
+    let event = Event::At {
+        place: 50,
+        speed: 900,
+        clock: 10,
+    };
+    let between = session.apply(&event, &mut steps).is_ok();
     let lowered = first_limit(&session) == 800;
     let behind = session.at(40, 0, 20, &mut steps);
     let on_a_point = session.at(100, 900, 20, &mut steps).is_ok();
     let lifted = session.lift("works", &mut steps).is_ok();
     let close = session.at(100, 0, 20, &mut steps);
-    let answers = behind == Err(SessionFault::Behind) && close == Err(SessionFault::StopsTooClose);
+    let nowhere = session.latest(150, 60, &mut steps);
+    let answers = behind == Err(SessionFault::Behind)
+        && close == Err(SessionFault::StopsTooClose)
+        && nowhere == Err(SessionFault::Outside);
     Some(stands && between && lowered && on_a_point && lifted && answers)
 }
 
