@@ -6,6 +6,9 @@ pub const GAP_MET: u8 = 0;
 /// The certificate holds.
 pub const CERTIFIED: u8 = 0;
 
+/// A session was read to its end.
+pub const SESSION_READ: u8 = 0;
+
 /// A drive is on time, and the gap is wider.
 pub const GAP_OPEN: u8 = 1;
 

@@ -10,4 +10,4 @@ mod kinds;
 mod rules;
 
 pub use kinds::{LineFile, RouteFile, ServiceFile, TrainFile};
-pub use rules::fresh_rules;
+pub use rules::{fresh_rules, rules_refusal};

@@ -1,19 +1,31 @@
 //! The rules that a line, a train and a service give together.
 
-ghost use Rattle.std.specs.Prelude.{◌≡◌, ◌≤◌, ◌+◌, length, IfOk};
+ghost use Rattle.std.specs.Prelude.{◌≡◌, ◌≢◌, ◌≤◌, ◌+◌, codes, length, IfOk};
 ghost use Rattle.line_file.specs.Shape.{IsLine, IsService};
 ghost use Rattle.train_file.specs.Shape.{IsTrain};
 ghost use Rattle.command_files.specs.Stage.{IsStage, OnRead};
+ghost use Rattle.command_files.specs.Answers.{IsRefusal};
+ghost use Rattle.plan_files.specs.FaultWords.{rules_fault_words};
 ghost use Rattle.plan_files.specs.FreshRules.{FreshRules, IsRulesRefusal};
 
 use crate::fault_words::rules_words;
-use command_files::{Stage, refusal};
-use drive_rules::{Rules, Setup};
+use command_files::{Answer, Stage, refusal};
+use drive_rules::{Rules, RulesFault, Setup};
 use line_file::{Line, Service};
 use std::alloc::{AllocError, Global};
 use std::sync::ledger::Ledger;
 use step_energy::Steps;
 use train_file::Train;
+
+/// The answer that the rules which a line, a train and a service give together are refused for this fault. The only error is want of memory,
+/// which the fault may itself be.
+pub fn rules_refusal(alloc: Global, fault: RulesFault) -> Result<Answer, AllocError>
+    ensures sound { IfOk result (λ _. fault ≢ RulesFault.NoMemory) }
+    ensures says { IfOk result (λ a. IsRefusal (codes "rules") (rules_fault_words fault) a.status a.text.items) }
+{
+    let words = rules_words(alloc, fault)?;
+    refusal(alloc, b"rules", words.as_slice())
+}
 
 /// The rules of a run from a standstill at the first call of a service, by a grid of this step in metres, or the answer that they are
 /// refused. Want of memory may come at any place.
@@ -37,8 +49,7 @@ pub fn fresh_rules<L: Ledger>(
     match Rules::make(alloc, line, train, service, &setup, steps) {
         Ok(rules) => Ok(Stage::Read(rules)),
         Err(fault) => {
-            let words = rules_words(alloc, fault)?;
-            let answer = refusal(alloc, b"rules", words.as_slice())?;
+            let answer = rules_refusal(alloc, fault)?;
             Ok(Stage::Ends(answer))
         }
     }
