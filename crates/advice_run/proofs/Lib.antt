@@ -1,3 +1,4 @@
 pub mod AnswerLemmas
 pub mod CertificateLemmas
 pub mod SampleLemmas
+pub mod SessionLemmas

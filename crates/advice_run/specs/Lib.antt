@@ -3,3 +3,4 @@ pub mod Plan
 pub mod Words
 pub mod Sample
 pub mod Outcome
+pub mod Session

@@ -15,7 +15,9 @@ use Rattle.run_parts.specs.Runs.{regeneration_of}
 use Rattle.advice_run.specs.Check.{IsReportAnswer}
 use Rattle.advice_run.specs.Plan.{IsPlanAnswer}
 use Rattle.advice_run.specs.Sample.{IsSampleAnswer}
-use Rattle.advice_run.specs.Words.{Command, Usage, Route, Plan, Check, Sample}
+use Rattle.advice_run.specs.Session.{IsAdvice, IsSessionAnswer, SessionEnds, SessionSays, Starts}
+use Rattle.event_file.specs.declared.event.Event.{Event}
+use Rattle.advice_run.specs.Words.{Command, Usage, Route, Plan, Check, Session, Sample}
 
 -- the text about usage: a line for each command
 abbrev pub usage_text : List ℕ
@@ -23,6 +25,7 @@ usage_text =
     text_line (codes "usage: advice route FILE [--splits N] [--tolerance N]")
     ++ text_line (codes "       advice plan LINE TRAIN SERVICE [--step N] [--splits N] [--tolerance N]")
     ++ text_line (codes "       advice check LINE TRAIN SERVICE REPORT [--step N]")
+    ++ text_line (codes "       advice session LINE TRAIN SERVICE EVENTS [--step N] [--splits N] [--tolerance N]")
     ++ text_line (codes "       advice sample N [--splits N] [--tolerance N]")
 
 -- ---- answers to what files say
@@ -51,6 +54,13 @@ IsJoinedCheck line train service report step counted =
     MayAnswer (IsRulesRefusal line train service step) (FreshRules line train service step)
     (IsRulesCheck (regained_cost train.regeneration) report counted)
 
+-- the answer to a line, a train, a service and events, with a grid of this step, with so many splits for each advice, at this tolerance: what
+-- the events print of a session that starts there, or the refusal of the joined rules
+abbrev pub IsJoinedSession : Line → Train → Service → List Event → ℕ → ℕ → ℕ → ℕ → ℕ → List ℕ → Type 0
+IsJoinedSession line train service events step splits tolerance counted =
+    MayAnswer (IsRulesRefusal line train service step) (Starts line train service step)
+    (λ s. IsSessionAnswer (IsAdvice (regained_cost train.regeneration) splits tolerance (regeneration_of train)) s events counted)
+
 -- ---- a run
 
 -- the run of a command may write this text and end with this status, where it counted so many steps: over a shelf that tells this, and
@@ -65,6 +75,9 @@ MayWrite (Plan line train service step splits tolerance) told before now counted
 MayWrite (Check line train service report step) told before now counted status text =
     MayAnswer (CheckEnds line train service report told before now) (CheckSays line train service report told)
     (λ said. IsJoinedCheck said.0 said.1.0 said.1.1.0 said.1.1.1.0 step counted) status text
+MayWrite (Session line train service events step splits tolerance) told before now counted status text =
+    MayAnswer (SessionEnds line train service events told before now) (SessionSays line train service events told)
+    (λ said. IsJoinedSession said.0 said.1.0 said.1.1.0 said.1.1.1.0 step splits tolerance counted) status text
 MayWrite (Sample n splits tolerance) told before now counted status text = IsSampleAnswer n splits tolerance counted status text
 
 -- the words name this file
@@ -73,4 +86,5 @@ Names Usage name = ⊥
 Names (Route file splits tolerance) name = name ≡ file
 Names (Plan line train service step splits tolerance) name = (name ≡ line) ⊎ (name ≡ train) ⊎ (name ≡ service)
 Names (Check line train service report step) name = (name ≡ line) ⊎ (name ≡ train) ⊎ (name ≡ service) ⊎ (name ≡ report)
+Names (Session line train service events step splits tolerance) name = (name ≡ line) ⊎ (name ≡ train) ⊎ (name ≡ service) ⊎ (name ≡ events)
 Names (Sample n splits tolerance) name = ⊥

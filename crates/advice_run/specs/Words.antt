@@ -18,6 +18,9 @@ pub data Command : Type 0 where
   -- the check of the report in the last file, over the line, by the train and for the service in the first three, with a grid of this step
   -- in metres
   Check : List ℕ → List ℕ → List ℕ → List ℕ → ℕ → Command
+  -- the answers to the events in the last file, over the line, by the train and for the service in the first three, with a grid of this step
+  -- in metres, with so many splits of cells for each advice, at this tolerance in per mille
+  Session : List ℕ → List ℕ → List ℕ → List ℕ → ℕ → ℕ → ℕ → Command
   -- a plan over the sample of this number, with so many splits of cells, at this tolerance in per mille
   Sample : ℕ → ℕ → ℕ → Command
 
@@ -34,6 +37,13 @@ abbrev pub plan_app : App
 plan_app =
     with_rule (with_rule (with_rule (with_rule (with_rule (with_rule (new_app (codes "plan")) (positional (codes "line")))
     (positional (codes "train"))) (positional (codes "service")))
+    (option (codes "step") (codes "100"))) (option (codes "splits") (codes "2000"))) (option (codes "tolerance") (codes "10"))
+
+-- `session LINE TRAIN SERVICE EVENTS [--step N] [--splits N] [--tolerance N]`
+abbrev pub session_app : App
+session_app =
+    with_rule (with_rule (with_rule (with_rule (with_rule (with_rule (with_rule (new_app (codes "session")) (positional (codes "line")))
+    (positional (codes "train"))) (positional (codes "service"))) (positional (codes "events")))
     (option (codes "step") (codes "100"))) (option (codes "splits") (codes "2000"))) (option (codes "tolerance") (codes "10"))
 
 -- `sample N [--splits N] [--tolerance N]`
@@ -78,6 +88,20 @@ abbrev pub check_of_names : Option CheckNames → Command
 check_of_names None = Usage
 check_of_names (Some (line, (train, (service, (report, step))))) = Check line train service report step
 
+-- `session` of the files of these names, or the usage where a number isn't one in its range
+abbrev pub session_of_numbers : Text → Text → Text → Text → Option ℕ → Option ℕ → Option ℕ → Command
+session_of_numbers line train service events None splits tolerance = Usage
+session_of_numbers line train service events (Some step) None tolerance = Usage
+session_of_numbers line train service events (Some step) (Some splits) None = Usage
+session_of_numbers line train service events (Some step) (Some splits) (Some tolerance) = Session line train service events step splits tolerance
+
+-- `session`
+abbrev pub session_of_rows : Option (List Row) → Command
+session_of_rows None = Usage
+session_of_rows (Some rows) =
+    session_of_numbers (value_of (codes "line") rows) (value_of (codes "train") rows) (value_of (codes "service") rows)
+    (value_of (codes "events") rows) (step_in rows) (splits_in rows) (tolerance_in rows)
+
 -- `sample` of this number, or the usage where a number isn't one in its range
 abbrev pub sample_of_numbers : Option ℕ → Option ℕ → Option ℕ → Command
 sample_of_numbers None splits tolerance = Usage
@@ -97,6 +121,7 @@ command_of (word ∷ words) =
     if bytes_eq word (codes "route") then route_of_rows (taken route_app (word ∷ words))
     else if bytes_eq word (codes "plan") then plan_of_rows (taken plan_app (word ∷ words))
     else if bytes_eq word (codes "check") then check_of_names (check_of_rows (taken check_app (word ∷ words)))
+    else if bytes_eq word (codes "session") then session_of_rows (taken session_app (word ∷ words))
     else if bytes_eq word (codes "sample") then sample_of_rows (taken sample_app (word ∷ words))
     else Usage
 
@@ -105,5 +130,6 @@ abbrev pub command_by : FirstWord → List (List ℕ) → Command
 command_by first_word.Route words = route_of_rows (taken route_app words)
 command_by first_word.Plan words = plan_of_rows (taken plan_app words)
 command_by first_word.Check words = check_of_names (check_of_rows (taken check_app words))
+command_by first_word.Session words = session_of_rows (taken session_app words)
 command_by first_word.Sample words = sample_of_rows (taken sample_app words)
 command_by first_word.Other words = Usage

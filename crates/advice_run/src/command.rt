@@ -6,10 +6,13 @@ ghost use Rattle.advice_run.specs.Words.{command_by, command_of};
 ghost use Rattle.advice_run.specs.Outcome.{MayWrite, Names};
 
 use crate::check::answer_check;
-use crate::command_line::{read_plan_words, read_route_words, read_sample_words};
+use crate::command_line::{
+    read_plan_words, read_route_words, read_sample_words, read_session_words,
+};
 use crate::plan::answer_plan;
 use crate::route::answer_route;
 use crate::sample::answer_sample;
+use crate::session::answer_session;
 use crate::usage::usage;
 use command_files::Answer;
 use edge_io::Shelf;
@@ -28,6 +31,8 @@ pub enum FirstWord {
     Plan,
     /// `check`.
     Check,
+    /// `session`.
+    Session,
     /// `sample`.
     Sample,
     /// Another word, or none.
@@ -45,6 +50,7 @@ fn first_word(words: &Words) -> FirstWord
         "route" => FirstWord::Route,
         "plan" => FirstWord::Plan,
         "check" => FirstWord::Check,
+        "session" => FirstWord::Session,
         "sample" => FirstWord::Sample,
         _ => FirstWord::Other,
     }
@@ -68,6 +74,7 @@ pub fn answer<S: Shelf, L: Ledger>(
         FirstWord::Route => answer_route_words(alloc, words, shelf, boxes, steps),
         FirstWord::Plan => answer_plan_words(alloc, words, shelf, boxes, steps),
         FirstWord::Check => answer_check_words(alloc, words, shelf, steps),
+        FirstWord::Session => answer_session_words(alloc, words, shelf, boxes, steps),
         FirstWord::Sample => answer_sample_words(alloc, words, boxes, steps),
         FirstWord::Other => usage(alloc),
     }
@@ -128,6 +135,26 @@ fn answer_check_words<S: Shelf, L: Ledger>(
 {
     match read_check_words(alloc, words)? {
         Some(asked) => answer_check(alloc, &asked, shelf, steps),
+        None => usage(alloc),
+    }
+}
+
+/// The answer to words that begin with `session`.
+fn answer_session_words<S: Shelf, L: Ledger>(
+    alloc: Global,
+    words: &Words,
+    shelf: &mut S,
+    boxes: &mut Vec<Box<dyn Proposer>>,
+    steps: &mut Steps<L>,
+) -> Result<Answer, AllocError>
+    ensures may { IfOk result (λ a. MayWrite (command_by FirstWord.Session words.now) (S.contents shelf.old) (S.faults shelf.old)
+        (S.faults shelf.new) (steps.new - steps.old) a.status a.text.items) }
+    ensures kept { (n : List ℕ) → S.contents shelf.new n ≡ S.contents shelf.old n }
+    ensures later { (n : List ℕ) → S.faults shelf.old n ≤ S.faults shelf.new n }
+    ensures others { (n : List ℕ) → (Names (command_by FirstWord.Session words.now) n → ⊥) → S.faults shelf.new n ≡ S.faults shelf.old n }
+{
+    match read_session_words(alloc, words)? {
+        Some(asked) => answer_session(alloc, &asked, shelf, boxes, steps),
         None => usage(alloc),
     }
 }

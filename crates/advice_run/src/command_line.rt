@@ -6,10 +6,12 @@ ghost use Rattle.run_parts.specs.Words.{taken};
 ghost use Rattle.advice_run.specs.Words.{Plan, Route, Usage, plan_app, plan_of_rows, route_app, route_of_rows};
 
 mod sample_words;
+mod session_words;
 
 use clap::{ArgMatches, Command};
 use run_parts::{Words, matches_of, number_in, value_of, with_name, with_option};
 pub use sample_words::{SampleWords, read_sample_words};
+pub use session_words::{SessionWords, read_session_words};
 use std::alloc::{AllocError, Global};
 
 /// The command `route FILE [--splits N] [--tolerance N]`.

@@ -5,11 +5,13 @@ mod arguments;
 mod check;
 mod command;
 mod command_line;
+mod events_file;
 mod plan;
 mod program;
 mod route;
 mod rules;
 mod sample;
+mod session;
 mod usage;
 
 pub use arguments::run_arguments;

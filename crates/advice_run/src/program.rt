@@ -18,7 +18,7 @@ use step_energy::Steps;
 /// Does all that the program does: reads what the words ask for, fetches the files that they name, and writes one text.
 /// It gives the status that the program ends with:
 ///
-/// - 0: a drive is on time, and the gap between its energy and the bound is within the tolerance; or the certificate holds;
+/// - 0: a drive is on time, and the gap between its energy and the bound is within the tolerance; or the certificate holds; or a session was read to its end;
 /// - 1: a drive is on time, and the gap is wider;
 /// - 2: the words ask for nothing, and the usage is written;
 /// - 3: a file is too long or is refused, at its first fault, or the rules that the files give together are;

@@ -8,7 +8,7 @@ use std::alloc::{AllocError, Global};
 
 /// A line for each command.
 const USAGE: &[u8] =
-    b"usage: advice route FILE [--splits N] [--tolerance N]\n       advice plan LINE TRAIN SERVICE [--step N] [--splits N] [--tolerance N]\n       advice check LINE TRAIN SERVICE REPORT [--step N]\n       advice sample N [--splits N] [--tolerance N]\n";
+    b"usage: advice route FILE [--splits N] [--tolerance N]\n       advice plan LINE TRAIN SERVICE [--step N] [--splits N] [--tolerance N]\n       advice check LINE TRAIN SERVICE REPORT [--step N]\n       advice session LINE TRAIN SERVICE EVENTS [--step N] [--splits N] [--tolerance N]\n       advice sample N [--splits N] [--tolerance N]\n";
 
 /// The text about usage.
 pub fn usage(alloc: Global) -> Result<Answer, AllocError>
