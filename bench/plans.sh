@@ -9,5 +9,5 @@ for case in "1000 2000" "1000 10000" "100 2000" "100 50000"; do
     set -- $case
     figures=$(measured plan "$line/line.csv" "$line/train.toml" "$line/service.csv" --step "$1" --splits "$2")
     echo "step $1, $2 splits: $figures"
-    "$advice" plan "$line/line.csv" "$line/train.toml" "$line/service.csv" --step "$1" --splits "$2" | sed -n '2,3p;5p' || true
+    "$built" plan "$line/line.csv" "$line/train.toml" "$line/service.csv" --step "$1" --splits "$2" | sed -n '2,3p;5p' || true
 done

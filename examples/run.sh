@@ -1,12 +1,14 @@
 #!/bin/sh
-# Runs each example and compares its status and what it prints, up to where a certificate begins, with what is said here; and checks that each
-# plan's report is certified. Ends with the number that differ.
+# Runs each example of both programs and compares its status and what it prints, up to where a certificate begins, with what is said here; and
+# checks that each plan's report is certified. Ends with the number that differ.
 cd "$(dirname "$0")" || exit 1
 report=$(mktemp)
 got=$(mktemp)
 want=$(mktemp)
 trap 'rm -f "$report" "$got" "$want"' EXIT
 failed=0
+program=advice
+title='certificate 1'
 
 try() { # the wanted status; the wanted text, with '|' for line ends, or the file of a long one; and the words
     case $2 in
@@ -16,29 +18,30 @@ try() { # the wanted status; the wanted text, with '|' for line ends, or the fil
     wanted=$1
     shift 2
     status=0
-    ../advice "$@" >"$report" || status=$?
-    sed '/^certificate 1$/q' "$report" >"$got"
+    ../$program "$@" >"$report" || status=$?
+    sed "/^$title\$/q" "$report" >"$got"
     if [ "$status" = "$wanted" ] && cmp -s "$want" "$got"; then
-        echo "ok   $*"
+        echo "ok   $program $*"
     else
-        echo "DIFF $*: status $status, wanted $wanted"
+        echo "DIFF $program $*: status $status, wanted $wanted"
         diff "$want" "$got"
         failed=$((failed + 1))
     fi
 }
 
 certify() { # of a plan: the words behind the command, whose report is checked with the same step
-    ../advice plan "$@" >"$report"
-    if ../advice check "$1" "$2" "$3" "$report" ${4+"$4"} ${5+"$5"} >"$got"; then
-        echo "ok   check of the report of $*"
+    ../$program plan "$@" >"$report"
+    if ../$program check "$1" "$2" "$3" "$report" ${4+"$4"} ${5+"$5"} >"$got"; then
+        echo "ok   check of the report of $program plan $*"
     else
-        echo "DIFF check of the report of $*: $(cat "$got")"
+        echo "DIFF check of the report of $program plan $*: $(cat "$got")"
         failed=$((failed + 1))
     fi
 }
 
-# Builds the program where it isn't built yet; without words it answers with the usage.
+# Builds the programs where they aren't built yet; without words they answer with the usage.
 ../advice >/dev/null || [ $? != 70 ] || exit 70
+../costate >/dev/null || [ $? != 70 ] || exit 70
 
 run_200m='advice 1|gap met|energy 6600000000000|kilojoules 3300|bound 6599679787200|cells 1002|splits 999|phase 0 100 part 0 800|phase 100 200 brake 800 0|time 200 50000 50000|certificate 1|'
 whole_200m='advice 1|gap open|energy 6600000000000|kilojoules 3300|bound 200010000000|cells 3|splits 0|phase 0 100 part 0 800|phase 100 200 brake 800 0|time 200 50000 50000|certificate 1|'
@@ -101,4 +104,44 @@ try 6 'read fault route|' route absent.route
 try 2 "$usage" route
 try 2 "$usage" plan 200m/line.csv
 
+# The program `costate`: the same drives, a bound without splits, and its certificates.
+program=costate
+title='costate 1'
+usage='usage: costate plan LINE TRAIN SERVICE [--step N] [--tolerance N]|       costate route FILE [--tolerance N]|       costate check LINE TRAIN SERVICE REPORT [--step N]|'
+regained_200m='advice 1|gap met|energy 3500000000000|kilojoules 1750|regeneration 500|traction 6600000000000|bound 3499479292574|phase 0 100 part 0 800|phase 100 200 brake 800 0|time 200 50000 50000|costate 1|'
+
+# From one stop to the next, as three files, with the whole certificate, and as one; and where half of the work of braking is given back.
+title=end
+try 0 answers/costate/200m.txt plan 200m/line.csv 200m/train.toml 200m/service.csv
+title='costate 1'
+run_200m=$(sed '/^costate 1$/q' answers/costate/200m.txt | tr '\n' '|')
+try 0 "$run_200m" route two_steps.route
+try 0 "$regained_200m" plan 200m/line.csv regaining/train.toml 200m/service.csv
+
+# Reports that are checked: that of the 200 m, whole and with a bound that is lower by one; for another train; one of `advice`; and those of
+# other plans.
+try 0 'certified energy 6600000000000 bound 6598955599328|' check 200m/line.csv 200m/train.toml 200m/service.csv answers/costate/200m.txt
+try 9 'refused certificate number bound|' check 200m/line.csv 200m/train.toml 200m/service.csv bad/costate_bound.txt
+try 9 'refused certificate number energy|' check 200m/line.csv regaining/train.toml 200m/service.csv answers/costate/200m.txt
+try 9 'refused certificate form 1|' check 200m/line.csv 200m/train.toml 200m/service.csv answers/200m.txt
+certify 200m/line.csv regaining/train.toml 200m/service.csv
+certify 6km/line.csv 6km/train.toml 6km/service.csv --step 500
+certify 40km/line.csv 40km/train.toml 40km/service.csv
+
+# Downhill all the way, where the bound meets the energy; gradients and a restriction; several timing points; and 40 km by steps of 100 m.
+try 0 'advice 1|gap met|energy 0|kilojoules 0|bound 0|phase 0 200 brake 0 0|time 200 43574 50000|costate 1|' route downhill.route --tolerance 0
+try 0 answers/costate/6km.txt plan 6km/line.csv 6km/train.toml 6km/service.csv --step 500
+try 0 answers/costate/6km_timed.txt plan 6km/line.csv 6km/train.toml 6km/timed.csv --step 500
+try 0 answers/costate/40km.txt plan 40km/line.csv 40km/train.toml 40km/service.csv
+
+# Late, no drive, a bad file, files that don't go together, a file that isn't there, and words that ask for nothing.
+try 5 'advice 1|late 4000 272952 270000|' plan 6km/line.csv 6km/train.toml 6km/late.csv --step 500
+try 5 'advice 1|late 200 40000 39000|' route late.route
+try 4 'advice 1|no drive|' route too_steep.route
+try 3 'refused line gap 2|' plan bad/line.csv 200m/train.toml 200m/service.csv
+try 3 'refused route range 7|' route bad/limit.route
+try 3 'refused rules stops-too-close 2|' plan 200m/line.csv 200m/train.toml 200m/service.csv --step 200
+try 6 'read fault report|' check 200m/line.csv 200m/train.toml 200m/service.csv absent.txt
+try 2 "$usage" route
+try 2 "$usage" route two_steps.route --splits 0
 exit "$failed"

@@ -1,0 +1,3 @@
+pub mod OfferLemmas
+pub mod CertificateLemmas
+pub mod AnswerLemmas

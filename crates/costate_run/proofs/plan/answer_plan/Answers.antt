@@ -1,0 +1,24 @@
+use Rattle.std.proofs.Common.{◌-◌, inr}
+use Rattle.command_files.specs.declared.answer.Answer.{Answer}
+use Rattle.costate_run.specs.Outcome.{IsJoinedAnswer}
+use Rattle.costate_run.proofs.AnswerLemmas.{ok_map, joined_answered}
+use Rattle.costate_run.proofs.plan.answer_plan.Goals as goal
+
+pub returns-in-Read-clause-may : goal.returns-in-Read-clause-may
+returns-in-Read-clause-may g c =
+    let w = c.args.asked.now in
+    let said = c.in-Read.said in
+    let says = rw c.in-Read.is at c.in_ok-said.ensures.stage in
+    let counted = rw c.in-Read.is at c.in_ok-said.ensures.counted in
+    ok_map c.joined_answer.result
+    (λ (a : Answer). IsJoinedAnswer said.0 said.1.0 said.1.1.0 w.step w.tolerance
+    (c.joined_answer.new.steps - c.read_all.new.steps) a.status a.text.items) _
+    (λ a h. inr (
+      said,
+      (
+        says,
+        joined_answered said.0 said.1.0 said.1.1.0 w.step w.tolerance c.args.steps.now c.read_all.new.steps
+            c.joined_answer.new.steps a.status a.text.items counted h,
+      ),
+    ))
+    c.joined_answer.ensures

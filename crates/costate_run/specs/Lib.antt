@@ -1,0 +1,5 @@
+pub mod Words
+pub mod Offers
+pub mod Plan
+pub mod Check
+pub mod Outcome
