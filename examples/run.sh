@@ -46,7 +46,7 @@ certify() { # of a plan: the words behind the command, whose report is checked w
 run_200m='advice 1|gap met|energy 6600000000000|kilojoules 3300|bound 6599679787200|cells 1002|splits 999|phase 0 100 part 0 800|phase 100 200 brake 800 0|time 200 50000 50000|certificate 1|'
 whole_200m='advice 1|gap open|energy 6600000000000|kilojoules 3300|bound 200010000000|cells 3|splits 0|phase 0 100 part 0 800|phase 100 200 brake 800 0|time 200 50000 50000|certificate 1|'
 regained_200m='advice 1|gap open|energy 3500000000000|kilojoules 1750|regeneration 500|traction 6600000000000|bound -4699990000000|cells 3|splits 0|phase 0 100 part 0 800|phase 100 200 brake 800 0|time 200 50000 50000|certificate 1|'
-usage='usage: advice route FILE [--splits N] [--tolerance N]|       advice plan LINE TRAIN SERVICE [--step N] [--splits N] [--tolerance N]|       advice check LINE TRAIN SERVICE REPORT [--step N]|       advice sample N [--splits N] [--tolerance N]|'
+usage='usage: advice route FILE [--splits N] [--tolerance N]|       advice plan LINE TRAIN SERVICE [--step N] [--splits N] [--tolerance N]|       advice check LINE TRAIN SERVICE REPORT [--step N]|       advice session LINE TRAIN SERVICE EVENTS [--step N] [--splits N] [--tolerance N]|       advice sample N [--splits N] [--tolerance N]|'
 
 # From one stop to the next: as three files, as one, and without a split, so that the gap is open.
 try 0 "$run_200m" plan 200m/line.csv 200m/train.toml 200m/service.csv

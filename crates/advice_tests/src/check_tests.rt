@@ -4,19 +4,19 @@ use crate::runs::{Ended, advice_part, plain, put_file, run_words};
 use std::alloc::{AllocError, Global};
 use std::test::Fail;
 
-const LINE: &str = "kind,from,to,value\nlimit,0,200,36\ngradient,0,200,0\n";
+pub const LINE: &str = "kind,from,to,value\nlimit,0,200,36\ngradient,0,200,0\n";
 
-const TRAIN: &str =
+pub const TRAIN: &str =
     "mass = 1000\ninertia = 1000\na = 1000\nb = 0\nc = 0\ntraction = [[0, 51000], [1000, 51000]]\nbrake = [[0, 100000], [1000, 100000]]\n";
 
 /// The same train, half of whose work of braking is given back.
 const REGAINING: &str =
     "version = 2\nregeneration = 500\nmass = 1000\ninertia = 1000\na = 1000\nb = 0\nc = 0\ntraction = [[0, 51000], [1000, 51000]]\nbrake = [[0, 100000], [1000, 100000]]\n";
 
-const SERVICE: &str = "place,name,dwell,latest\n0,A,,\n200,B,,50\n";
+pub const SERVICE: &str = "place,name,dwell,latest\n0,A,,\n200,B,,50\n";
 
 /// The report of a plan without a split.
-const REPORT: &str =
+pub const REPORT: &str =
     "advice 1\ngap open\nenergy 6600000000000\nkilojoules 3300\nbound 200010000000\ncells 3\nsplits 0\nphase 0 100 part 0 800\nphase 100 200 brake 800 0\ntime 200 50000 50000\ncertificate 1\npoints 3\nenergy 6600000000000\nbound 200010000000\nprices 0\npoint 0 0 0=200010000000\npoint 800 1000 1=0\npoint 0 0 0=0\nend\n";
 
 /// What a run with these words leaves over a line, this train, a service and this report.

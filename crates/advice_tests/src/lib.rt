@@ -13,3 +13,5 @@ mod route_tests;
 mod runs;
 #[cfg(test)]
 mod sample_tests;
+#[cfg(test)]
+mod session_tests;

@@ -224,7 +224,7 @@ fn words_that_ask_for_nothing_are_answered_by_the_usage(rt: HostRuntime) -> Resu
         assert_eq!(rt; got.status, 2);
         assert_eq!(rt;
             got.text.as_str(),
-            "usage: advice route FILE [--splits N] [--tolerance N]\n       advice plan LINE TRAIN SERVICE [--step N] [--splits N] [--tolerance N]\n       advice check LINE TRAIN SERVICE REPORT [--step N]\n       advice sample N [--splits N] [--tolerance N]\n"
+            "usage: advice route FILE [--splits N] [--tolerance N]\n       advice plan LINE TRAIN SERVICE [--step N] [--splits N] [--tolerance N]\n       advice check LINE TRAIN SERVICE REPORT [--step N]\n       advice session LINE TRAIN SERVICE EVENTS [--step N] [--splits N] [--tolerance N]\n       advice sample N [--splits N] [--tolerance N]\n"
         );
     }
     Ok(())
