@@ -10,10 +10,6 @@ set -eu
 forty() { # the 40 km line
     cp "$top/examples/40km/line.csv" "$top/examples/40km/service.csv" .
 }
-with_goals() { # the line of sample 1, with a latest time at each call
-    sample 1
-    printf 'place,name,dwell,latest\n0,S0,,\n10000,S1,30,700\n20000,S2,30,1500\n30000,S3,30,2700\n40000,S4,,3600\n' >service.csv
-}
 failed=0
 held() { # the energy at this step is at most this much, in 1e15 half microjoules
     what=$1 step=$2 most=$3
@@ -34,7 +30,7 @@ held "sample 1" 1000 0.6964
 held "sample 1" 100 0.6385
 sample 2
 held "sample 2" 100 0.6210
-with_goals
+timed_sample 1
 held "sample 1, four latest times" 1000 0.8190
 held "sample 1, four latest times" 100 0.6680
 for step in 100 10; do

@@ -1,22 +1,10 @@
 # Read by drive_search.sh and random_searches.sh: builds a program that searches for the drive of a line, a train and a service.
 # Needs rt.
 . "$(dirname "$0")/crate.sh"
+. "$(dirname "$0")/sample_files.sh"
 program=$work/crates/bench/out/bench
 mkdir -p "$work/run"
 cp "$top/examples/40km/train.toml" "$work/run/"
-
-sample() { # the line and the service of the sample of this number
-    awk -v n="$1" 'BEGIN {
-        x = n % 2147483648
-        for (k = 0; k < 84; k++) {
-            d[k] = int(x / 65536)
-            x = (1103515245 * (x % 65536) + 12345 + (1103515245 * d[k] % 32768) * 65536) % 2147483648
-        }
-        print "kind,from,to,value"
-        for (b = 0; b < 40; b++) print "limit," 1000 * b "," 1000 * (b + 1) "," 54 + 9 * (d[2 * b + 2] % 9)
-        for (b = 0; b < 40; b++) print "gradient," 1000 * b "," 1000 * (b + 1) "," d[2 * b + 1] % 101 - 50 }' >line.csv
-    printf 'place,name,dwell,latest\n0,S0,,\n10000,S1,30,\n20000,S2,30,\n30000,S3,30,\n40000,S4,,3600\n' >service.csv
-}
 
 searched() { # what the program says at this step of metres: after the family, or after the search
     files | "$program" "$1" "$2"

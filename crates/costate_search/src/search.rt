@@ -19,8 +19,13 @@ const FULL: i32 = 64_000;
 /// The strides, one after the other.
 const STRIDES: [i32; 13] = [4_096, 2_048, 1_024, 512, 256, 128, 64, 32, 16, 8, 4, 2, 1];
 
-/// The most rounds of a stride but for its first.
-const ROUNDS: u32 = 24;
+/// The most rounds of a stride but for its first: of a wide one, which carries the costates far, and of one that only smooths them.
+const WIDE_ROUNDS: u32 = 64;
+
+const FINE_ROUNDS: u32 = 24;
+
+/// The least stride that is wide.
+const WIDE: i32 = 64;
 
 /// For each of three costates of a step: what the points before the step are charged at best, and which costate of the step before it that
 /// takes.
@@ -164,8 +169,13 @@ fn climb(
 ) -> Result<(), AllocError>
     requires { length costates.old ≡ length course.now.rules.steps }
 {
+    let rounds = if stride < WIDE {
+        FINE_ROUNDS
+    } else {
+        WIDE_ROUNDS
+    };
     let mut best = round(alloc, course, stride, costates)?;
-    for _ in 0..ROUNDS {
+    for _ in 0..rounds {
         let value = round(alloc, course, stride, costates)?;
         let gain = value.saturating_sub(best).max(0).unsigned_abs();
         if gain <= value.unsigned_abs() / 10_000_000 {
