@@ -16,6 +16,3 @@ mod session;
 pub use event_file::{Event, Name};
 pub use fault::SessionFault;
 pub use session::Session;
-
-#[cfg(test)]
-mod tests;

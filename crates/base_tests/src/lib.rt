@@ -30,6 +30,8 @@ mod sample_tests;
 #[cfg(test)]
 mod service_tests;
 #[cfg(test)]
+mod session_tests;
+#[cfg(test)]
 mod speed_range_tests;
 #[cfg(test)]
 mod step_energy_tests;

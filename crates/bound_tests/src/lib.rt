@@ -8,6 +8,10 @@ mod certificate_text_tests;
 #[cfg(test)]
 mod checker_tests;
 #[cfg(test)]
+mod costate_checker_tests;
+#[cfg(test)]
+mod costate_search_tests;
+#[cfg(test)]
 mod drive_search_tests;
 #[cfg(test)]
 mod multiplier_tests;

@@ -11,6 +11,10 @@ use step_energy::Steps;
 pub(crate) const TWO_STEPS: &[u8] =
     b"route 1\ntrain 1000 1000 1000 0 0\ntop 1000\ntraction 51000\nbrake 100000\nlatest 50\nstep 100 0 1000\nstep 100 0 1000\nend\n";
 
+/// The same, in 67 s.
+pub(crate) const SLOWER_TWO_STEPS: &[u8] =
+    b"route 1\ntrain 1000 1000 1000 0 0\ntop 1000\ntraction 51000\nbrake 100000\nlatest 67\nstep 100 0 1000\nstep 100 0 1000\nend\n";
+
 /// The rules of a route's text, counted by this counter.
 fn counted_rules<L: Ledger>(alloc: Global, text: &[u8], blank: Blank) -> Result<Rules, RouteFault>
     requires name { blank.name ≡ L.name }

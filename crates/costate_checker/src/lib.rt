@@ -6,6 +6,3 @@ mod refused;
 
 pub use checking::check;
 pub use refused::{Field, Refused};
-
-#[cfg(test)]
-mod tests;

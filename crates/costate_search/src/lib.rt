@@ -6,6 +6,3 @@ mod course;
 mod search;
 
 pub use search::search_costates;
-
-#[cfg(test)]
-mod tests;

@@ -1,22 +1,14 @@
 //! Costate certificates of a short run, each with one place changed.
 
-ghost use Rattle.std.specs.Prelude.{◌≡◌, ◌<◌};
-
-use crate::{Field, Refused, check};
+use crate::routes::{SLOWER_TWO_STEPS, rules_of};
 use costate_bound::costs_cover_work;
+use costate_checker::{Field, Refused, check};
 use costate_text::{CertFault, read, write};
-use drive_rules::{RouteFault, Rule, Rules, read_route};
+use drive_rules::{Rule, Rules};
 use rail_base::Traction;
 use std::alloc::Global;
-use std::marker::Brand;
 use std::process::Abort;
-use std::sync::ledger::{Blank, Ledger};
 use std::test::Fail;
-use step_energy::Steps;
-
-/// Two level steps of 100 m to a stop, by 67 s.
-const ROUTE: &[u8] =
-    b"route 1\ntrain 1000 1000 1000 0 0\ntop 1000\ntraction 51000\nbrake 100000\nlatest 67\nstep 100 0 1000\nstep 100 0 1000\nend\n";
 
 /// The lines of a certificate behind its title, and how it is answered; none where it is certified.
 const CASES: [(&str, Option<Refused>); 12] = [
@@ -103,16 +95,6 @@ const TEXTS: [(&str, CertFault); 8] = [
     ),
 ];
 
-/// Reads the route with a counter of its own.
-fn read_with<L: Ledger>(alloc: Global, blank: Blank) -> Result<Rules, RouteFault>
-    requires name { blank.name ≡ L.name }
-    requires parts { blank.parts ≡ L.parts }
-    requires some { 0 < L.parts }
-{
-    let mut steps = Steps::<L>::new(blank);
-    read_route(alloc, ROUTE, &mut steps)
-}
-
 /// The answer to a certificate with these lines.
 fn answer(rt: &impl Abort, alloc: Global, rules: &Rules, lines: &str) -> Option<Refused> {
     let text = format!(in alloc; "costate 1\n{lines}end\n").expect(rt, "the text fits");
@@ -132,9 +114,7 @@ fn fault_of(rt: &impl Abort, alloc: Global, lines: &str) -> Option<CertFault> {
 #[test]
 fn hostile_certificates(rt: HostRuntime) -> Result<(), Fail> {
     let alloc = rt.alloc();
-    let rules = read_with::<Brand>(alloc, Blank::new(1))
-        .ok()
-        .ok_or("the route is read")?;
+    let rules = rules_of(alloc, SLOWER_TWO_STEPS)?;
     for (lines, refused) in CASES {
         assert_eq!(rt; answer(&rt, alloc, &rules, lines), refused);
     }

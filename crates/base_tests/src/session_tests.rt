@@ -1,9 +1,7 @@
 //! Events of a session on a small example: 200 m of a level line, from one call to another.
 ghost use Rattle.std.specs.Prelude.{◌≡◌, ◌<◌};
 
-use crate::fault::SessionFault;
-use crate::session::Session;
-use event_file::Event;
+use advice_session::{Event, Session, SessionFault};
 use line_file::{read_line, read_service};
 use std::alloc::Global;
 use std::marker::Brand;

@@ -1,4 +1,0 @@
-use Rattle.costate_checker.proofs.tests.hostile_certificates.Given as goal
-
-abbrev pub ghosts-read_with : goal.ghosts-read_with
-ghosts-read_with g a = record { name = a.blank.name; parts = a.blank.parts }
