@@ -39,6 +39,21 @@ certify() { # of a plan: the words behind the command, whose report is checked w
     fi
 }
 
+told() { # the file of what a session prints, without the certificates of its plans; and its words
+    cp "$1" "$want"
+    shift
+    status=0
+    ../advice session "$@" >"$report" || status=$?
+    sed '/^certificate 1$/,/^end$/d' "$report" >"$got"
+    if [ "$status" = 0 ] && cmp -s "$want" "$got"; then
+        echo "ok   advice session $*"
+    else
+        echo "DIFF advice session $*: status $status, wanted 0"
+        diff "$want" "$got"
+        failed=$((failed + 1))
+    fi
+}
+
 # Builds the programs where they aren't built yet; without words they answer with the usage.
 ../advice >/dev/null || [ $? != 70 ] || exit 70
 ../costate >/dev/null || [ $? != 70 ] || exit 70
@@ -70,6 +85,10 @@ try 0 'advice 1|gap met|energy 0|kilojoules 0|bound 0|cells 920|splits 917|phase
 # Gradients and a restriction, by steps of 500 m; and a line of 40 km with two stops on the way.
 try 0 answers/6km.txt plan 6km/line.csv 6km/train.toml 6km/service.csv --step 500
 try 1 answers/40km.txt plan 40km/line.csv 40km/train.toml 40km/service.csv --step 200
+
+# A train under way: a delay, a work site, another latest time.
+told answers/6km_session.txt 6km/line.csv 6km/train.toml 6km/service.csv 6km/events.txt --step 500
+try 3 'refused events form 1|' session 6km/line.csv 6km/train.toml 6km/service.csv 6km/line.csv
 
 # Several timing points, one of them passed without a stop.
 try 0 answers/6km_timed.txt plan 6km/line.csv 6km/train.toml 6km/timed.csv --step 500
