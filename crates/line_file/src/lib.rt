@@ -7,6 +7,7 @@
 
 mod calls;
 mod line;
+mod names;
 mod row_file;
 mod rows;
 mod sections;
@@ -14,5 +15,6 @@ mod service;
 
 pub use calls::{Call, CallList};
 pub use line::{Line, LineFault, read_line};
+pub use names::{NameList, read_names};
 pub use sections::{Section, SectionList};
 pub use service::{Service, ServiceFault, read_service};
