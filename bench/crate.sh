@@ -1,4 +1,4 @@
-# Read by certificates.sh, compose.sh, judge.sh, line_file.sh, potentials.sh, price_search.sh and search_program.sh: builds a small program over the crates, in a copy of the repository. Needs rt and
+# Read by certificates.sh, compose.sh, judge.sh, line_file.sh, potentials.sh, price_search.sh, search_program.sh and speed_ranges.sh: builds a small program over the crates, in a copy of the repository. Needs rt and
 # valgrind. What was proved before is copied too, so that only what changed is proved again.
 top=$(cd "$(dirname "$0")/.." && pwd)
 work=$(mktemp -d)

@@ -1,4 +1,4 @@
-# Read by route.sh and speed_ranges.sh. Needs awk.
+# Read by compose.sh, route.sh and speed_ranges.sh. Needs awk.
 
 random_route() { # a route of $1 steps of 100 m: gradients between -100 and 100, limits between 1,500 and 3,333 cm/s, a train of 400 tonnes
     awk -v n="$1" 'BEGIN {
