@@ -9,6 +9,9 @@ pub const CERTIFIED: u8 = 0;
 /// A session was read to its end.
 pub const SESSION_READ: u8 = 0;
 
+/// The drive of a report is kept and on time, and is shown.
+pub const SHOWN: u8 = 0;
+
 /// A drive is on time, and the gap is wider.
 pub const GAP_OPEN: u8 = 1;
 

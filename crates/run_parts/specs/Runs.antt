@@ -1,4 +1,4 @@
--- What the runs of both programs leave: a text and a status, and when a fault may come.
+-- What the runs of all programs leave: a text and a status, and when a fault may come.
 use Rattle.std.specs.Prelude.{ℕ, ◌≡◌, ◌≤◌, ◌==◌, ℤ, List, [], Option, Some, None, Result, Ok, Err, String, string_bytes, drop, if◌then◌else◌, length, map, take}
 use Rattle.std.specs.declared.alloc.Global.{Global}
 use Rattle.rail_specs.specs.Rules.{Rules, IsGreatestDrive, NoDrive, timing_at}

@@ -1,4 +1,4 @@
-//! Answers that both programs give.
+//! Answers that several programs give.
 
 ghost use Rattle.std.specs.Prelude.{◌≡◌, IfOk};
 ghost use Rattle.rail_specs.specs.Rules.{NoDrive};

@@ -1,4 +1,4 @@
-//! What the runs of both programs share: the words of a command line and what clap takes of them, the words of a check, the file of a report,
+//! What the runs of all programs share: the words of a command line and what clap takes of them, the words of a check, the file of a report,
 //! and the answers where there is no drive on time and where a certificate is refused or holds.
 #![tactic(auto)]
 
