@@ -4,3 +4,4 @@ pub mod Rounded
 pub mod Clock
 pub mod Energy
 pub mod Names
+pub mod Arrivals

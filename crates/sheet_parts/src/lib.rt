@@ -3,6 +3,7 @@
 //! Each text has a definition in `specs/`, and a function that appends it.
 #![tactic(auto)]
 
+mod arrival_times;
 mod clock;
 mod decimals;
 mod energy;
@@ -10,6 +11,7 @@ mod fill;
 mod names;
 mod rounded;
 
+pub use arrival_times::arrivals;
 pub use clock::{put_clock, seconds_down, seconds_up};
 pub use decimals::{put_decimals, put_natural};
 pub use energy::{
