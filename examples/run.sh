@@ -1,18 +1,19 @@
 #!/bin/sh
-# Runs each example of both programs and compares its status and what it prints, up to where a certificate begins, with what is said here; and
+# Runs each example of the programs and compares its status and what it prints, up to where a certificate begins, with what is said here; and
 # checks that each plan's report is certified. Ends with the number that differ.
 cd "$(dirname "$0")" || exit 1
 report=$(mktemp)
 got=$(mktemp)
 want=$(mktemp)
-trap 'rm -f "$report" "$got" "$want"' EXIT
+plan=$(mktemp)
+trap 'rm -f "$report" "$got" "$want" "$plan"' EXIT
 failed=0
 program=advice
 title='certificate 1'
 
 try() { # the wanted status; the wanted text, with '|' for line ends, or the file of a long one; and the words
     case $2 in
-        answers/*) cat "$2" ;;
+        answers/* | ../docs/*) cat "$2" ;;
         *) printf %s "$2" | tr '|' '\n' ;;
     esac >"$want"
     wanted=$1
@@ -57,6 +58,7 @@ told() { # the file of what a session prints, without the certificates of its pl
 # Builds the programs where they aren't built yet; without words they answer with the usage.
 ../advice >/dev/null || [ $? != 70 ] || exit 70
 ../costate >/dev/null || [ $? != 70 ] || exit 70
+../sheet >/dev/null || [ $? != 70 ] || exit 70
 
 run_200m='advice 1|gap met|energy 6600000000000|kilojoules 3300|bound 6599679787200|cells 1002|splits 999|phase 0 100 part 0 800|phase 100 200 brake 800 0|time 200 50000 50000|certificate 1|'
 whole_200m='advice 1|gap open|energy 6600000000000|kilojoules 3300|bound 200010000000|cells 3|splits 0|phase 0 100 part 0 800|phase 100 200 brake 800 0|time 200 50000 50000|certificate 1|'
@@ -163,4 +165,41 @@ try 3 'refused rules stops-too-close 2|' plan 200m/line.csv 200m/train.toml 200m
 try 6 'read fault report|' check 200m/line.csv 200m/train.toml 200m/service.csv absent.txt
 try 2 "$usage" route
 try 2 "$usage" route two_steps.route --splits 0
+
+# The program `sheet`: each form of the drives of reports by `costate`, whole, and of one by `advice`.
+program=sheet
+title='no line of a sheet'
+usage='usage: sheet LINE TRAIN SERVICE REPORT [--step N] [--form timetable|points|svg]|'
+
+planned() { # the words of a plan of `costate`, whose report is kept for what follows
+    ../costate plan "$@" >"$plan"
+}
+
+planned 6km/line.csv 6km/train.toml 6km/timed.csv --step 500
+try 0 answers/sheet/6km.txt 6km/line.csv 6km/train.toml 6km/timed.csv "$plan" --step 500
+try 0 answers/sheet/6km.csv 6km/line.csv 6km/train.toml 6km/timed.csv "$plan" --step 500 --form points
+try 0 ../docs/picture/6km.svg 6km/line.csv 6km/train.toml 6km/timed.csv "$plan" --step 500 --form svg
+planned 40km/line.csv 40km/train.toml 40km/service.csv
+for form in timetable points svg; do
+    try 0 answers/sheet/40km_$form.txt 40km/line.csv 40km/train.toml 40km/service.csv "$plan" --form $form
+done
+planned sample/line.csv sample/train.toml sample/service.csv
+for form in timetable points svg; do
+    try 0 answers/sheet/sample_$form.txt sample/line.csv sample/train.toml sample/service.csv "$plan" --form $form
+done
+try 0 answers/sheet/200m.txt 200m/line.csv 200m/train.toml 200m/service.csv answers/200m.txt
+try 0 answers/sheet/200m_regaining.txt 200m/line.csv regaining/train.toml 200m/service.csv answers/regaining.txt
+
+# Reports that aren't shown, in the words of `check`: with another grid, for another train, later than the service wants, and no report.
+try 9 'refused certificate number points|' 6km/line.csv 6km/train.toml 6km/timed.csv answers/200m.txt --step 500
+try 9 'refused certificate number energy|' 200m/line.csv regaining/train.toml 200m/service.csv answers/200m.txt
+try 9 'refused certificate form 1|' 200m/line.csv 200m/train.toml 200m/service.csv 200m/line.csv
+try 9 'refused certificate drive limit 0|' 200m/line.csv 200m/train.toml 200m/service.csv bad/above_limit.txt
+
+# A bad file, files that don't go together, a file that isn't there, and words that ask for nothing.
+try 3 'refused service bad-header|' 200m/line.csv 200m/train.toml 200m/line.csv answers/200m.txt
+try 3 'refused rules stops-too-close 2|' 200m/line.csv 200m/train.toml 200m/service.csv answers/200m.txt --step 200
+try 6 'read fault report|' 200m/line.csv 200m/train.toml 200m/service.csv absent.txt
+try 2 "$usage" 200m/line.csv 200m/train.toml 200m/service.csv
+try 2 "$usage" 200m/line.csv 200m/train.toml 200m/service.csv answers/200m.txt --form pdf
 exit "$failed"

@@ -1,0 +1,5 @@
+pub mod Words
+pub mod NamedServices
+pub mod Claims
+pub mod Shown
+pub mod Outcome

@@ -1,0 +1,56 @@
+//! Runs of the program over files and a stream in memory.
+
+ghost use Rattle.std.specs.Prelude.{◌≡◌, ◌<◌};
+
+use edge_io::{MemoryShelf, MemorySink};
+use run_parts::Words;
+use sheet_run::run;
+use std::alloc::{AllocError, Global};
+use std::marker::Brand;
+use std::sync::ledger::{Blank, Ledger};
+use step_energy::Steps;
+
+/// What a run left: the status that it ended with, and what it wrote.
+#[derive(Debug, PartialEq, Eq, Drop)]
+pub struct Ended {
+    pub status: u8,
+    pub text: String,
+}
+
+/// What a run with these words leaves over files of these names and texts, with a counter of its own.
+fn run_counted<L: Ledger>(
+    alloc: Global,
+    words: &[&str],
+    files: &[(&str, &str)],
+    blank: Blank,
+) -> Result<Ended, AllocError>
+    requires name { blank.name ≡ L.name }
+    requires parts { blank.parts ≡ L.parts }
+    requires some { 0 < L.parts }
+{
+    let mut list = Words::new(alloc);
+    for word in words {
+        list.push(*word)?;
+    }
+    let mut held: Vec<(String, Vec<u8>)> = Vec::new(alloc);
+    for (name, text) in files {
+        let name = String::from_str(alloc, *name)?;
+        let bytes = Vec::from_slice(alloc, text.as_bytes())?;
+        held.push((name, bytes))?;
+    }
+    let mut shelf = MemoryShelf::new(alloc, held, Vec::new(alloc));
+    let mut sink = MemorySink::new(alloc, 1_000_000, 1_000_000, Vec::new(alloc))?;
+    let mut steps: Steps<L> = Steps::new(blank);
+    let status = run(alloc, &list, &mut shelf, &mut sink, &mut steps);
+    let text = String::from_utf8_lossy(alloc, sink.bytes())?;
+    Ok(Ended { status, text })
+}
+
+/// What a run with these words leaves over files of these names and texts.
+pub fn run_words(
+    alloc: Global,
+    words: &[&str],
+    files: &[(&str, &str)],
+) -> Result<Ended, AllocError> {
+    run_counted::<Brand>(alloc, words, files, Blank::new(1))
+}
