@@ -19,6 +19,43 @@ const REPORT: &str =
 const REPORT_BY_CELLS: &str =
     "certificate 1\npoints 3\nenergy 6600000000000\nbound 200010000000\nprices 0\npoint 0 0 0=200010000000\npoint 800 1000 1=0\npoint 0 0 0=0\nend\n";
 
+/// The timetable of the drive: 50 s, and 6.6 MJ of energy, which are 0.917 kWh.
+const TIMETABLE: &str =
+    "       km    arrival  departure     latest      slack  call\n    0.000              00:00:00                        A&B <1>\n    0.200   00:00:50              00:00:50   00:00:00  C\n\nrunning time    00:00:50\nenergy              0.92 kWh        3300 kJ\nbound               0.91 kWh        3299 kJ\ncould be saved      0.01 per cent at most\nhold               0.000 km\npower              0.000 km\ncoast              0.000 km\nbrake              0.100 km\npart               0.100 km\n";
+
+#[test]
+fn a_drive_is_shown_in_each_form(rt: HostRuntime) -> Result<(), Fail> {
+    let alloc = rt.alloc();
+    let files = [
+        ("l", LINE),
+        ("t", TRAIN),
+        ("s", SERVICE),
+        ("r", REPORT),
+        ("c", REPORT_BY_CELLS),
+    ];
+    let timetable = run_words(alloc, &["l", "t", "s", "r"], &files)?;
+    assert!(rt; timetable.text.as_str() == TIMETABLE);
+    assert!(rt; timetable.status == 0);
+    let points = run_words(alloc, &["l", "t", "s", "c", "--form", "points"], &files)?;
+    assert!(rt;
+        points
+            .text
+            .as_str()
+            .ends_with("\n200,0,0.000,50.000,,,,,0.92\n")
+    );
+    let picture = run_words(alloc, &["l", "t", "s", "c", "--form", "svg"], &files)?;
+    assert!(rt;
+        picture
+            .text
+            .as_str()
+            .contains(">A&amp;B &lt;1&gt; 00:00:00<")
+    );
+    assert!(rt; !picture.text.as_str().contains("<1>"));
+    let usage = run_words(alloc, &["l", "t", "s", "c", "--form", "pdf"], &files)?;
+    assert!(rt; usage.status == 2);
+    Ok(())
+}
+
 #[test]
 fn reports_are_shown_or_refused_as_a_check_refuses_them(rt: HostRuntime) -> Result<(), Fail> {
     let alloc = rt.alloc();
