@@ -1,5 +1,5 @@
 -- Texts that are appended piece by piece.
-use Rattle.std.proofs.Common.{ℕ, ◌≡◌, ◌+◌, ◌++◌, ◌∙◌, List, [], ap, append_assoc}
+use Rattle.std.proofs.Common.{ℕ, ◌≡◌, ◌+◌, ◌++◌, ◌∙◌, List, ap, append_assoc}
 use Rattle.sheet_parts.specs.Fill.{joined_below}
 use Rattle.sheet_parts.proofs.FillLemmas.{joined_below-next}
 

@@ -1,5 +1,5 @@
 -- The points of a drive as a table of comma-separated fields.
-use Rattle.std.specs.Prelude.{ℕ, ◌+◌, ◌*◌, nat_lt, ℤ, pos, List, [], ◌∷◌, ◌++◌, codes, decimal, length, slice_index, if◌then◌else◌}
+use Rattle.std.specs.Prelude.{ℕ, ◌+◌, ◌*◌, nat_lt, ℤ, pos, List, ◌∷◌, ◌++◌, codes, decimal, length, slice_index, if◌then◌else◌}
 use Rattle.rail_specs.specs.Rules.{Rules, step_at, work_at}
 use Rattle.rail_specs.specs.Times.{arrival_up}
 use Rattle.rail_specs.specs.Cost.{int_sum_below}

@@ -1,5 +1,5 @@
 -- The timetable of a drive: a line for each call, and what the whole drive is. Times are shown as hh:mm:ss.
-use Rattle.std.specs.Prelude.{ℕ, zero, suc, ◌+◌, ◌==◌, ◌||◌, ℤ, pos, ◌-ℤ◌, List, [], ◌∷◌, ◌++◌, Option, Some, None, codes, length, slice_index, slice_index_or, if◌then◌else◌}
+use Rattle.std.specs.Prelude.{ℕ, ◌+◌, ◌==◌, ◌||◌, ℤ, pos, ◌-ℤ◌, List, [], ◌∷◌, ◌++◌, Option, Some, None, codes, length, slice_index, slice_index_or, if◌then◌else◌}
 use Rattle.std.specs.Fmt.{signed_decimal}
 use Rattle.rail_specs.specs.Rules.{Rules, is_stop, timing_at}
 use Rattle.rail_specs.specs.Times.{arrival_up}

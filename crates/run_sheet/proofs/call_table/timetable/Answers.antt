@@ -1,4 +1,4 @@
-use Rattle.std.proofs.Common.{arith, ℕ, ℤ, ◌≡◌, ◌++◌, ◌∙◌, [], ap, length, to_z, of_z, Option}
+use Rattle.std.proofs.Common.{arith, ℤ, ◌≡◌, ◌++◌, ◌∙◌, [], ap, length, to_z, of_z, Option}
 use Rattle.std.proofs.lemmas.Int.{ints}
 use mir.Syntax.{w128}
 use Rattle.rail_base.specs.Texts.{line}

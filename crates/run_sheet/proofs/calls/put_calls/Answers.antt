@@ -1,5 +1,5 @@
-use Rattle.std.proofs.Common.{arith, ℕ, ◌≡◌, ◌≤◌, ◌∙◌, List, [], ap, length}
-use Rattle.std.specs.Prelude.{slice_index, slice_index_or}
+use Rattle.std.proofs.Common.{arith, ℕ, ◌≡◌, ◌≤◌, ◌∙◌, List, ap, length}
+use Rattle.std.specs.Prelude.{slice_index}
 use Rattle.rail_specs.specs.Times.{arrival_up}
 use Rattle.run_sheet.specs.Timetable.{call_line, line_of_call}
 use Rattle.run_sheet.proofs.AppendLemmas.{joined_more}

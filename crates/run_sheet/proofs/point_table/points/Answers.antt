@@ -1,4 +1,4 @@
-use Rattle.std.proofs.Common.{arith, ℕ, ℤ, ◌≡◌, ◌≤◌, ◌++◌, ◌∙◌, List, ap, sym, refl, length, to_z}
+use Rattle.std.proofs.Common.{arith, ℕ, ℤ, ◌≡◌, ◌++◌, ◌∙◌, ap, sym, refl, length, to_z}
 use mir.Syntax.{w128}
 use Rattle.rail_specs.specs.Rules.{work_at}
 use Rattle.rail_specs.specs.Times.{arrival_up}
