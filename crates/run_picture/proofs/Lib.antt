@@ -1,1 +1,2 @@
 pub mod ScaleLemmas
+pub mod PictureExamples

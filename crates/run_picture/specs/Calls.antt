@@ -13,9 +13,9 @@ use Rattle.run_picture.specs.Scale.{place_x}
 abbrev pub AreCalls : Rules → List ℕ → Type 0
 AreCalls r calls = All (λ k. k ≤ length r.steps) calls
 
--- the name of call j as the picture shows it: at most 24 characters of it, as xml
+-- the name of call j as the picture shows it: at most 20 characters of it, as xml
 unfoldable pub call_name : List (List ℕ) → ℕ → List ℕ
-call_name names j = escaped (clipped 24 (shown_name (slice_index_or names j [])))
+call_name names j = escaped (clipped 20 (shown_name (slice_index_or names j [])))
 
 -- where the point lies, from the left
 unfoldable pub point_x : Scale → Rules → ℕ → ℕ

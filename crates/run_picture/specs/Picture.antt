@@ -38,7 +38,8 @@ legend_text =
     ++ codes "<path class='l' d='M6450 650h350'/><text x='6880' y='705'>limit</text>\n"
     ++ codes "<path class='n' d='M7600 580h350v140h-350z'/><text x='8030' y='705'>gradient</text>\n"
     ++ codes "<path class='t' d='M9140 710l-80-120h160z'/><text x='9290' y='705'>latest time</text>\n"
-    ++ codes "<text class='u' x='820' y='910'>km/h</text><text class='u' x='820' y='5180'>&#8240;</text><text class='u' x='620' y='5540'>km</text>\n"
+    ++ codes "<path class='q' d='M10500 650h350'/><text x='10930' y='705'>pass</text>\n"
+    ++ codes "<text class='u' x='820' y='910'>km/h</text><text class='u' x='820' y='5120'>&#8240;</text><text class='u' x='620' y='5540'>km</text>\n"
 
 -- the left axis, and the lines of standstill and of level track
 unfoldable pub frame_text : List ℕ

@@ -14,7 +14,7 @@ use sheet_parts::{clipped, put_clock, put_escaped, seconds_up, shown_name};
 use std::alloc::{AllocError, Global};
 
 /// How many characters of a name are shown.
-const MOST_CHARACTERS: usize = 24;
+const MOST_CHARACTERS: usize = 20;
 
 /// Appends the name of call j as the picture shows it.
 #[tactic(auto, unfolding(crate::specs::Calls::call_name))]
