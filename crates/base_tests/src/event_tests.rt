@@ -51,7 +51,7 @@ fn refusal(alloc: Global, text: &[u8]) -> Option<EventFault> {
 
 #[test]
 fn refused_lines(rt: HostRuntime) {
-    let texts: [(&[u8], u32); 8] = [
+    const TEXTS: &[(&[u8], u32)] = &[
         (b"stop now\nend\n", 1),
         (b"", 1),
         (b"advise\n", 2),
@@ -61,7 +61,7 @@ fn refused_lines(rt: HostRuntime) {
         (b"latest 1 1000000000\nend\n", 1),
         (b"lift Works\nend\n", 1),
     ];
-    for (text, line) in texts {
+    for &(text, line) in TEXTS {
         assert!(rt; refusal(rt.alloc(), text) == Some(EventFault::Form(line)));
     }
 }
@@ -78,13 +78,13 @@ fn repeated(alloc: Global, count: usize, line: &[u8]) -> Result<Vec<u8>, AllocEr
 
 #[test]
 fn too_many(rt: HostRuntime) -> Result<(), AllocError> {
-    let cases: [(usize, &[u8], Option<EventFault>); 4] = [
+    const CASES: &[(usize, &[u8], Option<EventFault>)] = &[
         (1000, b"lift a\n", None),
         (1001, b"lift a\n", Some(EventFault::TooManyEvents(1001))),
         (64, b"advise\n", None),
         (65, b"advise\n", Some(EventFault::TooManyAdvises(65))),
     ];
-    for (count, line, fault) in cases {
+    for &(count, line, fault) in CASES {
         let text = repeated(rt.alloc(), count, line)?;
         assert!(rt; refusal(rt.alloc(), text.as_slice()) == fault);
     }

@@ -40,10 +40,10 @@ fn spans_and_counts(rt: HostRuntime) {
     ] {
         match Grid::make(rt.alloc(), &[], 100, from, to) {
             Ok(grid) => {
-                assert_eq!(rt; None, fault);
-                assert_eq!(rt; grid.places().len(), steps + 1);
+                assert!(rt; None == fault);
+                assert!(rt; grid.places().len() == steps + 1);
             }
-            Err(found) => assert_eq!(rt; Some(found), fault),
+            Err(found) => assert!(rt; Some(found) == fault),
         }
     }
 }

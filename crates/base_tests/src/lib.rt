@@ -14,6 +14,8 @@ mod item_list_tests;
 #[cfg(test)]
 mod joined_rules_tests;
 #[cfg(test)]
+mod judge_tests;
+#[cfg(test)]
 mod line_tests;
 #[cfg(test)]
 mod memory_shelf_tests;
@@ -26,11 +28,15 @@ mod out_sink_tests;
 #[cfg(test)]
 mod route_tests;
 #[cfg(test)]
+mod rule_change_tests;
+#[cfg(test)]
 mod sample_tests;
 #[cfg(test)]
 mod service_tests;
 #[cfg(test)]
 mod session_tests;
+#[cfg(test)]
+mod small_rules;
 #[cfg(test)]
 mod speed_range_tests;
 #[cfg(test)]

@@ -19,13 +19,13 @@ fn fault_of_rows(alloc: Global, rows: &[u8]) -> Result<Option<LineFault>, AllocE
 #[test]
 fn lines_are_read(rt: HostRuntime) -> Result<(), Fail> {
     let alloc = rt.alloc();
-    let texts: [&[u8]; 4] = [
+    const TEXTS: &[&[u8]] = &[
         b"kind,from,to,value\nlimit,0,200,36\ngradient,0,200,0\n",
         b"\xEF\xBB\xBFkind,from,to,value\n\n \nlimit,0,200,36\n\"\"\ngradient,0,200,0",
         b"\"kind\",\"from\",\"to\",\"value\"\r\nlimit,0,200,36\r\n\r\ngradient,0,200,0\r\n",
         b"kind , from,to, value \n gradient ,-0,+0200, 0\n\"limit\", 000 ,200,036\n",
     ];
-    for text in texts {
+    for text in TEXTS {
         match read_line(alloc, text) {
             Ok(line) => {
                 let limit = Section {
@@ -38,13 +38,13 @@ fn lines_are_read(rt: HostRuntime) -> Result<(), Fail> {
                     to: 200,
                     value: 0,
                 };
-                assert_eq!(rt; line.limits.items(), [limit].as_slice());
-                assert_eq!(rt; line.gradients.items(), [gradient].as_slice());
+                assert!(rt; line.limits.items() == [limit].as_slice());
+                assert!(rt; line.gradients.items() == [gradient].as_slice());
                 let again = line.copy(alloc)?;
-                assert_eq!(rt; again.limits.items(), line.limits.items());
-                assert_eq!(rt; again.gradients.items(), line.gradients.items());
+                assert!(rt; again.limits.items() == line.limits.items());
+                assert!(rt; again.gradients.items() == line.gradients.items());
             }
-            Err(fault) => assert_eq!(rt; Some(fault), None),
+            Err(fault) => assert!(rt; Some(fault) == None),
         }
     }
     Ok(())
@@ -52,7 +52,7 @@ fn lines_are_read(rt: HostRuntime) -> Result<(), Fail> {
 
 #[test]
 fn headers_are_refused(rt: HostRuntime) {
-    let texts: [&[u8]; 7] = [
+    const TEXTS: &[&[u8]] = &[
         b"",
         b"\n \n",
         b"limit,0,200,36\n",
@@ -61,14 +61,14 @@ fn headers_are_refused(rt: HostRuntime) {
         b"Kind,from,to,value\n",
         b"kind;from;to;value\n",
     ];
-    for text in texts {
-        assert_eq!(rt; fault_of(rt.alloc(), text), Some(LineFault::BadHeader));
+    for text in TEXTS {
+        assert!(rt; fault_of(rt.alloc(), text) == Some(LineFault::BadHeader));
     }
 }
 
 #[test]
 fn rows_are_refused(rt: HostRuntime) -> Result<(), Fail> {
-    let cases: [(&[u8], LineFault); 22] = [
+    const CASES: &[(&[u8], LineFault)] = &[
         (b"", LineFault::NoSections),
         (b"\nlimit,0,200\n", LineFault::BadRow(1)),
         (b"limit,0,200,36,\n", LineFault::BadRow(1)),
@@ -98,8 +98,8 @@ fn rows_are_refused(rt: HostRuntime) -> Result<(), Fail> {
         (b"limit,0,200,36\ngradient,0,201,0\n", LineFault::EndsDiffer),
         (b"limit,1,200,36\ngradient,0,200,0\n", LineFault::EndsDiffer),
     ];
-    for (rows, fault) in cases {
-        assert_eq!(rt; fault_of_rows(rt.alloc(), rows)?, Some(fault));
+    for &(rows, fault) in CASES {
+        assert!(rt; fault_of_rows(rt.alloc(), rows)? == Some(fault));
     }
     Ok(())
 }
@@ -118,7 +118,10 @@ fn cut_lines_are_refused(rt: HostRuntime) {
         (50, None),
     ];
     for (most, fault) in cases {
-        assert_eq!(rt; fault_of(rt.alloc(), &text[..most]), fault, "cut at {most}");
+        assert!(rt;
+            fault_of(rt.alloc(), &text[..most]) == fault,
+            "cut at {most}"
+        );
     }
 }
 
@@ -129,9 +132,9 @@ fn limits_are_rounded_down(rt: HostRuntime) -> Result<(), Fail> {
     let line = read_line(rt.alloc(), text).ok().ok_or("refused")?;
     let values: [i32; 5] = [1_000, 1_666, 2_777, 12_000, 27];
     for (section, value) in line.limits.items().iter().zip(values.as_slice()) {
-        assert_eq!(rt; section.value, *value);
+        assert!(rt; section.value == *value);
     }
-    assert_eq!(rt; line.gradients.items().len(), 1);
+    assert!(rt; line.gradients.items().len() == 1);
     Ok(())
 }
 
@@ -151,9 +154,9 @@ fn quoted_headers_and_crlf_are_read(rt: HostRuntime) -> Result<(), Fail> {
         (line.gradients.items(), gradients),
     ];
     for (sections, numbers) in kinds {
-        assert_eq!(rt; sections.len(), 3);
+        assert!(rt; sections.len() == 3);
         for (section, (from, to, value)) in sections.iter().zip(numbers) {
-            assert_eq!(rt; *section, Section { from, to, value });
+            assert!(rt; *section == Section { from, to, value });
         }
     }
     Ok(())
@@ -168,17 +171,11 @@ fn one_row_too_many_is_refused(rt: HostRuntime) -> Result<(), Fail> {
         let row = format!(in alloc; "limit,{from},{},60\n", from + 1)?;
         text.extend_from_slice(row.as_bytes())?;
     }
-    assert_eq!(rt; fault_of(alloc, text.as_slice()), None);
+    assert!(rt; fault_of(alloc, text.as_slice()) == None);
     text.extend_from_slice(b"speed,,,\n")?;
-    assert_eq!(rt;
-        fault_of(alloc, text.as_slice()),
-        Some(LineFault::TooManyRows)
-    );
+    assert!(rt; fault_of(alloc, text.as_slice()) == Some(LineFault::TooManyRows));
     text.truncate(text.len() - 1);
     text.extend_from_slice(b",\n")?;
-    assert_eq!(rt;
-        fault_of(alloc, text.as_slice()),
-        Some(LineFault::BadRow(20_001))
-    );
+    assert!(rt; fault_of(alloc, text.as_slice()) == Some(LineFault::BadRow(20_001)));
     Ok(())
 }

@@ -6,13 +6,13 @@ use std::test::Fail;
 fn pieces_are_put(rt: HostRuntime) -> Result<(), Fail> {
     let alloc = rt.alloc();
     let mut sink = MemorySink::new(alloc, 4, 10, [3].to_vec(alloc)?)?;
-    assert_eq!(rt; sink.put(b""), Ok(0));
-    assert_eq!(rt; sink.put(b"abcdef"), Ok(4));
-    assert_eq!(rt; sink.put(b"ef"), Ok(2));
-    assert_eq!(rt; sink.put(b"g"), Err(Failed));
-    assert_eq!(rt; put_all(&mut sink, b"ghijklm"), Err(Failed));
-    assert_eq!(rt; sink.bytes(), b"abcdefghij".as_slice());
-    assert_eq!(rt; sink.put(b""), Ok(0));
+    assert!(rt; sink.put(b"") == Ok(0));
+    assert!(rt; sink.put(b"abcdef") == Ok(4));
+    assert!(rt; sink.put(b"ef") == Ok(2));
+    assert!(rt; sink.put(b"g") == Err(Failed));
+    assert!(rt; put_all(&mut sink, b"ghijklm") == Err(Failed));
+    assert!(rt; sink.bytes() == b"abcdefghij".as_slice());
+    assert!(rt; sink.put(b"") == Ok(0));
     Ok(())
 }
 
@@ -20,9 +20,9 @@ fn pieces_are_put(rt: HostRuntime) -> Result<(), Fail> {
 fn whole_texts_are_put(rt: HostRuntime) -> Result<(), Fail> {
     let alloc = rt.alloc();
     let mut sink = MemorySink::new(alloc, 10, 100, [2].to_vec(alloc)?)?;
-    assert_eq!(rt; put_all(&mut sink, b"advice 1\ngap open\n"), Err(Failed));
-    assert_eq!(rt; sink.bytes(), b"advice 1\ng".as_slice());
-    assert_eq!(rt; put_all(&mut sink, b"ap open\n"), Ok(()));
-    assert_eq!(rt; sink.bytes(), b"advice 1\ngap open\n".as_slice());
+    assert!(rt; put_all(&mut sink, b"advice 1\ngap open\n") == Err(Failed));
+    assert!(rt; sink.bytes() == b"advice 1\ng".as_slice());
+    assert!(rt; put_all(&mut sink, b"ap open\n") == Ok(()));
+    assert!(rt; sink.bytes() == b"advice 1\ngap open\n".as_slice());
     Ok(())
 }

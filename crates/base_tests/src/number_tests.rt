@@ -4,7 +4,7 @@ use std::test::Fail;
 
 #[test]
 fn numbers_are_read(rt: HostRuntime) -> Result<(), Fail> {
-    let numbers: [(&[u8], i64); 8] = [
+    const NUMBERS: &[(&[u8], i64)] = &[
         (b"0", 0),
         (b"-0", 0),
         (b"+7", 7),
@@ -14,10 +14,10 @@ fn numbers_are_read(rt: HostRuntime) -> Result<(), Fail> {
         (b"999999999999999999", 999_999_999_999_999_999),
         (b"-999999999999999999", -999_999_999_999_999_999),
     ];
-    for (text, number) in numbers {
-        assert_eq!(rt; read_number(text), Some(number));
+    for &(text, number) in NUMBERS {
+        assert!(rt; read_number(text) == Some(number));
     }
-    let others: [&[u8]; 9] = [
+    const OTHERS: &[&[u8]] = &[
         b"",
         b" ",
         b"-",
@@ -28,29 +28,29 @@ fn numbers_are_read(rt: HostRuntime) -> Result<(), Fail> {
         b"\t1",
         b"1000000000000000000",
     ];
-    for text in others {
-        assert_eq!(rt; read_number(text), None);
+    for text in OTHERS {
+        assert!(rt; read_number(text) == None);
     }
     Ok(())
 }
 
 #[test]
 fn fields_are_read(rt: HostRuntime) -> Result<(), Fail> {
-    assert_eq!(rt; read_field(b"-600"), Some(-600));
-    assert_eq!(rt; read_field(b"0010"), Some(10));
-    assert_eq!(rt; read_field(b"+1"), None);
-    assert_eq!(rt; read_field(b" 1"), None);
-    assert_eq!(rt; read_field(b"--1"), None);
-    assert_eq!(rt; read_count(b"999999999"), Some(999_999_999));
-    assert_eq!(rt; read_count(b"0000000001"), None);
-    assert_eq!(rt; read_count(b"-1"), None);
-    assert_eq!(rt; read_digits(b"4294967295", 10), Some(4_294_967_295));
+    assert!(rt; read_field(b"-600") == Some(-600));
+    assert!(rt; read_field(b"0010") == Some(10));
+    assert!(rt; read_field(b"+1") == None);
+    assert!(rt; read_field(b" 1") == None);
+    assert!(rt; read_field(b"--1") == None);
+    assert!(rt; read_count(b"999999999") == Some(999_999_999));
+    assert!(rt; read_count(b"0000000001") == None);
+    assert!(rt; read_count(b"-1") == None);
+    assert!(rt; read_digits(b"4294967295", 10) == Some(4_294_967_295));
     Ok(())
 }
 
 #[test]
 fn numbers_are_within(rt: HostRuntime) {
-    let cases = [
+    const CASES: &[(i64, Option<u32>)] = &[
         (0, None),
         (1, Some(1)),
         (9, Some(9)),
@@ -59,8 +59,8 @@ fn numbers_are_within(rt: HostRuntime) {
         (i64::MIN, None),
         (4_294_967_301, None),
     ];
-    for (number, natural) in cases {
-        assert_eq!(rt; natural_within(number, 1, 9), natural, "{number}");
+    for &(number, natural) in CASES {
+        assert!(rt; natural_within(number, 1, 9) == natural, "{number}");
     }
 }
 
@@ -70,9 +70,8 @@ fn numbers_are_put(rt: HostRuntime) -> Result<(), Fail> {
     put_number(rt.alloc(), &mut text, 6_600_000_000_000)?;
     put_number(rt.alloc(), &mut text, -50)?;
     put_number(rt.alloc(), &mut text, i128::MIN)?;
-    assert_eq!(rt;
-        text.as_slice(),
-        b"6600000000000-50-170141183460469231731687303715884105728".as_slice()
+    assert!(rt;
+        text.as_slice() == b"6600000000000-50-170141183460469231731687303715884105728".as_slice()
     );
     Ok(())
 }

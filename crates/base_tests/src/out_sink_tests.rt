@@ -8,13 +8,13 @@ use std::test::Fail;
 #[test]
 fn streams_take_bytes(rt: HostRuntime) -> Result<(), Fail> {
     let mut out = OutSink::new(io::writer(&rt));
-    assert_eq!(rt; out.put(b""), Ok(0));
-    assert_eq!(rt; put_all(&mut out, b"a line of a test\n"), Ok(()));
+    assert!(rt; out.put(b"") == Ok(0));
+    assert!(rt; put_all(&mut out, b"a line of a test\n") == Ok(()));
     let full = OpenOptions::new().write(true).open(&rt, "/dev/full")?;
     let mut full = OutSink::new(full);
-    assert_eq!(rt; full.put(b""), Ok(0));
-    assert_eq!(rt; full.put(b"no room"), Err(Failed));
-    assert_eq!(rt; put_all(&mut full, b"no room"), Err(Failed));
+    assert!(rt; full.put(b"") == Ok(0));
+    assert!(rt; full.put(b"no room") == Err(Failed));
+    assert!(rt; put_all(&mut full, b"no room") == Err(Failed));
     Ok(())
 }
 
@@ -23,7 +23,7 @@ fn streams_take_bytes(rt: HostRuntime) -> Result<(), Fail> {
 fn pieces_are_flushed(rt: HostRuntime) -> Result<(), Fail> {
     let full = OpenOptions::new().write(true).open(&rt, "/dev/full")?;
     let mut full = OutSink::new(BufWriter::new(rt.alloc(), full)?);
-    assert_eq!(rt; full.put(b"no room"), Err(Failed));
+    assert!(rt; full.put(b"no room") == Err(Failed));
     Ok(())
 }
 
@@ -50,6 +50,6 @@ impl Write for Stutters {
 #[test]
 fn interrupted_writes_are_tried_again(rt: HostRuntime) -> Result<(), Fail> {
     let mut out = OutSink::new(Stutters { interrupted: 3 });
-    assert_eq!(rt; out.put(b"whole"), Ok(5));
+    assert!(rt; out.put(b"whole") == Ok(5));
     Ok(())
 }

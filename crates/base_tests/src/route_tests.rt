@@ -111,7 +111,7 @@ fn lengthened(alloc: Global, count: usize, end: &[u8]) -> Result<Vec<u8>, AllocE
 #[test]
 fn each_line_has_one_form(rt: HostRuntime) -> Result<(), Fail> {
     let alloc = rt.alloc();
-    let around: [(&[u8], &[u8]); 6] = [
+    const AROUND: &[(&[u8], &[u8])] = &[
         (b"", b" \n"),
         (b" ", b"\n"),
         (b"", b"\t\n"),
@@ -123,16 +123,14 @@ fn each_line_has_one_form(rt: HostRuntime) -> Result<(), Fail> {
     for line in LINES {
         n = n.wrapping_add(1);
         let place = n as usize;
-        for (before, behind) in around {
-            assert_eq!(rt;
-                refusal_within(alloc, place, line, before, behind)?,
-                Some(RouteFault::Form(n)),
+        for &(before, behind) in AROUND {
+            assert!(rt;
+                refusal_within(alloc, place, line, before, behind)? == Some(RouteFault::Form(n)),
                 "{n}"
             );
         }
-        assert_eq!(rt;
-            refusal_within(alloc, place, line, b"", b"\r\n")?,
-            None,
+        assert!(rt;
+            refusal_within(alloc, place, line, b"", b"\r\n")? == None,
             "{n}"
         );
     }
@@ -142,7 +140,7 @@ fn each_line_has_one_form(rt: HostRuntime) -> Result<(), Fail> {
 #[test]
 fn lines_are_missed_and_doubled(rt: HostRuntime) -> Result<(), Fail> {
     let alloc = rt.alloc();
-    let missed = [
+    const MISSED: &[RouteFault] = &[
         RouteFault::Form(1),
         RouteFault::Form(2),
         RouteFault::Form(3),
@@ -153,11 +151,11 @@ fn lines_are_missed_and_doubled(rt: HostRuntime) -> Result<(), Fail> {
         RouteFault::Range(8),
         RouteFault::Form(9),
     ];
-    for (i, fault) in missed.iter().enumerate() {
+    for (i, fault) in MISSED.iter().enumerate() {
         let text = changed(alloc, i.wrapping_add(1), b"")?;
-        assert_eq!(rt; refusal(alloc, &text), Some(*fault), "{i}");
+        assert!(rt; refusal(alloc, &text) == Some(*fault), "{i}");
     }
-    let doubled = [
+    const DOUBLED: &[Option<RouteFault>] = &[
         Some(RouteFault::Form(2)),
         Some(RouteFault::Form(3)),
         Some(RouteFault::Form(4)),
@@ -168,14 +166,14 @@ fn lines_are_missed_and_doubled(rt: HostRuntime) -> Result<(), Fail> {
         None,
         Some(RouteFault::Form(10)),
     ];
-    for (i, fault) in doubled.iter().enumerate() {
+    for (i, fault) in DOUBLED.iter().enumerate() {
         let mut new = Vec::new(alloc);
         new.extend_from_slice(LINES[i])?;
         new.push(b'\n')?;
         new.extend_from_slice(LINES[i])?;
         new.push(b'\n')?;
         let text = changed(alloc, i.wrapping_add(1), &new)?;
-        assert_eq!(rt; refusal(alloc, &text), *fault, "{i}");
+        assert!(rt; refusal(alloc, &text) == *fault, "{i}");
     }
     Ok(())
 }
@@ -183,7 +181,7 @@ fn lines_are_missed_and_doubled(rt: HostRuntime) -> Result<(), Fail> {
 #[test]
 fn numbers_have_one_form(rt: HostRuntime) -> Result<(), Fail> {
     let alloc = rt.alloc();
-    let others: [&[u8]; 12] = [
+    const OTHERS: &[&[u8]] = &[
         b"",
         b"-",
         b"+1000",
@@ -197,30 +195,27 @@ fn numbers_have_one_form(rt: HostRuntime) -> Result<(), Fail> {
         b"\xFF\x00",
         b"0000000000000001000",
     ];
-    for field in others {
-        assert_eq!(rt;
-            refusal_within(alloc, 3, field, b"top ", b"\n")?,
-            Some(RouteFault::Form(3))
-        );
+    for field in OTHERS {
+        assert!(rt; refusal_within(alloc, 3, field, b"top ", b"\n")? == Some(RouteFault::Form(3)));
     }
-    let numbers: [(&[u8], Option<RouteFault>); 5] = [
+    const NUMBERS: &[(&[u8], Option<RouteFault>)] = &[
         (b"0000001000", None),
         (b"000000000000001000", None),
         (b"-0", Some(RouteFault::Range(3))),
         (b"999999999999999999", Some(RouteFault::Range(3))),
         (b"-999999999999999999", Some(RouteFault::Range(3))),
     ];
-    for (field, fault) in numbers {
-        assert_eq!(rt; refusal_within(alloc, 3, field, b"top ", b"\n")?, fault);
+    for &(field, fault) in NUMBERS {
+        assert!(rt; refusal_within(alloc, 3, field, b"top ", b"\n")? == fault);
     }
-    assert_eq!(rt; refusal_within(alloc, 6, b"-0", b"latest ", b"\n")?, None);
+    assert!(rt; refusal_within(alloc, 6, b"-0", b"latest ", b"\n")? == None);
     Ok(())
 }
 
 #[test]
 fn numbers_have_ranges(rt: HostRuntime) -> Result<(), Fail> {
     let alloc = rt.alloc();
-    let ranges: [(u32, &[u8], i32, i32, &[u8]); 12] = [
+    const RANGES: &[(u32, &[u8], i32, i32, &[u8])] = &[
         (2, b"train ", 1, 100_000, b" 1000 1000 0 0"),
         (2, b"train 1000 ", 1, 120_000, b" 1000 0 0"),
         (2, b"train 1000 1000 ", 0, 10_000_000, b" 0 0"),
@@ -234,27 +229,23 @@ fn numbers_have_ranges(rt: HostRuntime) -> Result<(), Fail> {
         (7, b"step 100 ", -1000, 1000, b" 1000"),
         (8, b"step 100 0 ", 1, 12_000, b""),
     ];
-    for (n, before, low, high, behind) in ranges {
+    for &(n, before, low, high, behind) in RANGES {
         let place = n as usize;
         let out = Some(RouteFault::Range(n));
-        assert_eq!(rt;
-            refusal_of_number(alloc, place, before, low.wrapping_sub(1), behind)?,
-            out,
+        assert!(rt;
+            refusal_of_number(alloc, place, before, low.wrapping_sub(1), behind)? == out,
             "{n}"
         );
-        assert_eq!(rt;
-            refusal_of_number(alloc, place, before, low, behind)?,
-            None,
+        assert!(rt;
+            refusal_of_number(alloc, place, before, low, behind)? == None,
             "{n}"
         );
-        assert_eq!(rt;
-            refusal_of_number(alloc, place, before, high, behind)?,
-            None,
+        assert!(rt;
+            refusal_of_number(alloc, place, before, high, behind)? == None,
             "{n}"
         );
-        assert_eq!(rt;
-            refusal_of_number(alloc, place, before, high.wrapping_add(1), behind)?,
-            out,
+        assert!(rt;
+            refusal_of_number(alloc, place, before, high.wrapping_add(1), behind)? == out,
             "{n}"
         );
     }
@@ -264,7 +255,7 @@ fn numbers_have_ranges(rt: HostRuntime) -> Result<(), Fail> {
 #[test]
 fn other_lines_are_refused(rt: HostRuntime) -> Result<(), Fail> {
     let alloc = rt.alloc();
-    let table: [(usize, &[u8], Option<RouteFault>); 20] = [
+    const TABLE: &[(usize, &[u8], Option<RouteFault>)] = &[
         (1, b"route 2\n", Some(RouteFault::Form(1))),
         (1, b"route 01\n", Some(RouteFault::Form(1))),
         (2, b"train 1000 1000 1000 0\n", Some(RouteFault::Form(2))),
@@ -290,9 +281,9 @@ fn other_lines_are_refused(rt: HostRuntime) -> Result<(), Fail> {
         (9, b"end\n\n", Some(RouteFault::Form(10))),
         (9, b"end\nx", Some(RouteFault::Form(10))),
     ];
-    for (n, new, fault) in table {
+    for &(n, new, fault) in TABLE {
         let text = changed(alloc, n, new)?;
-        assert_eq!(rt; refusal(alloc, &text), fault, "{n}");
+        assert!(rt; refusal(alloc, &text) == fault, "{n}");
     }
     Ok(())
 }
@@ -300,7 +291,7 @@ fn other_lines_are_refused(rt: HostRuntime) -> Result<(), Fail> {
 #[test]
 fn counts_of_lines_matter(rt: HostRuntime) -> Result<(), Fail> {
     let alloc = rt.alloc();
-    let table: [(usize, &[u8], Option<RouteFault>); 9] = [
+    const TABLE: &[(usize, &[u8], Option<RouteFault>)] = &[
         (0, b"end\n", Some(RouteFault::Range(7))),
         (1, b"end\n", Some(RouteFault::Range(8))),
         (3, b"end", None),
@@ -311,19 +302,19 @@ fn counts_of_lines_matter(rt: HostRuntime) -> Result<(), Fail> {
         (4001, b"end\n", Some(RouteFault::TooManySteps)),
         (4001, b"", Some(RouteFault::TooManySteps)),
     ];
-    for (count, end, fault) in table {
+    for &(count, end, fault) in TABLE {
         let text = lengthened(alloc, count, end)?;
-        assert_eq!(rt; refusal(alloc, &text), fault, "{count}");
+        assert!(rt; refusal(alloc, &text) == fault, "{count}");
     }
-    let short: [(&[u8], u32); 5] = [
+    const SHORT: &[(&[u8], u32)] = &[
         (b"", 1),
         (b"\n", 1),
         (b"route 1", 2),
         (b"route 1\r", 1),
         (b"route 1\r\n", 2),
     ];
-    for (text, n) in short {
-        assert_eq!(rt; refusal(alloc, text), Some(RouteFault::Form(n)), "{n}");
+    for &(text, n) in SHORT {
+        assert!(rt; refusal(alloc, text) == Some(RouteFault::Form(n)), "{n}");
     }
     Ok(())
 }
@@ -332,15 +323,15 @@ fn counts_of_lines_matter(rt: HostRuntime) -> Result<(), Fail> {
 fn parts_are_those_of_the_text(rt: HostRuntime) -> Result<(), Fail> {
     let text = lengthened(rt.alloc(), 2, b"step 300 -20 900\nend")?;
     let parts = read(rt.alloc(), &text)?;
-    assert_eq!(rt; (parts.start, parts.top), (0, 1000));
+    assert!(rt; (parts.start, parts.top) == (0, 1000));
     assert!(rt; parts.places.as_slice() == [0, 100, 200, 500].as_slice());
     assert!(rt; parts.limits.as_slice() == [1000, 1000, 900].as_slice());
     assert!(rt; parts.stops.as_slice() == [false, false, false, true].as_slice());
     assert!(rt; parts.dwells.as_slice() == [0, 0, 0, 0].as_slice());
-    assert_eq!(rt; parts.rows.len(), 3);
-    assert_eq!(rt; parts.rows[0].work(0, 800), 6_600_000_000_000);
-    assert_eq!(rt; parts.timings.len(), 1);
-    assert_eq!(rt; parts.timings[0].point, 3);
-    assert_eq!(rt; parts.timings[0].latest, 50_000);
+    assert!(rt; parts.rows.len() == 3);
+    assert!(rt; parts.rows[0].work(0, 800) == 6_600_000_000_000);
+    assert!(rt; parts.timings.len() == 1);
+    assert!(rt; parts.timings[0].point == 3);
+    assert!(rt; parts.timings[0].latest == 50_000);
     Ok(())
 }

@@ -44,9 +44,9 @@ fn services_are_read(rt: HostRuntime) -> Result<(), Fail> {
             latest: Some(2_400),
         },
     ];
-    assert_eq!(rt; service.calls.items(), calls.as_slice());
+    assert!(rt; service.calls.items() == calls.as_slice());
     let again = service.copy(alloc)?;
-    assert_eq!(rt; again.calls.items(), calls.as_slice());
+    assert!(rt; again.calls.items() == calls.as_slice());
     Ok(())
 }
 
@@ -54,9 +54,9 @@ fn services_are_read(rt: HostRuntime) -> Result<(), Fail> {
 fn texts_are_refused(rt: HostRuntime) -> Result<(), Fail> {
     let headers: [&[u8]; 3] = [b"", b"place,name,dwell\n", b"place,Name,dwell,latest\n"];
     for text in headers {
-        assert_eq!(rt; fault_of(rt.alloc(), text), Some(ServiceFault::BadHeader));
+        assert!(rt; fault_of(rt.alloc(), text) == Some(ServiceFault::BadHeader));
     }
-    let cases: [(&[u8], ServiceFault); 16] = [
+    const CASES: &[(&[u8], ServiceFault)] = &[
         (b"0,A,,,\n", ServiceFault::BadRow(1)),
         (b"0,A,,\n\n200,B\n", ServiceFault::BadRow(2)),
         (b",A,,\n", ServiceFault::BadNumber(1)),
@@ -77,8 +77,8 @@ fn texts_are_refused(rt: HostRuntime) -> Result<(), Fail> {
             ServiceFault::NoFinalLatest,
         ),
     ];
-    for (rows, fault) in cases {
-        assert_eq!(rt; fault_of_rows(rt.alloc(), rows)?, Some(fault));
+    for &(rows, fault) in CASES {
+        assert!(rt; fault_of_rows(rt.alloc(), rows)? == Some(fault));
     }
     Ok(())
 }
@@ -96,16 +96,19 @@ fn rows_of(alloc: Global, count: u32) -> Result<Vec<u8>, AllocError> {
 #[test]
 fn too_many_are_refused(rt: HostRuntime) -> Result<(), Fail> {
     let alloc = rt.alloc();
-    let cases = [
+    const CASES: &[(u32, Option<ServiceFault>)] = &[
         (2, None),
         (65, None),
         (66, Some(ServiceFault::TooManyLatest)),
         (1_000, Some(ServiceFault::TooManyLatest)),
         (1_001, Some(ServiceFault::TooManyRows)),
     ];
-    for (count, fault) in cases {
+    for &(count, fault) in CASES {
         let text = rows_of(alloc, count)?;
-        assert_eq!(rt; fault_of(alloc, text.as_slice()), fault, "of {count} rows");
+        assert!(rt;
+            fault_of(alloc, text.as_slice()) == fault,
+            "of {count} rows"
+        );
     }
     Ok(())
 }

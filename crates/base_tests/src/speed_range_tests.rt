@@ -104,21 +104,21 @@ fn compare_ranges(
     high: &[u16],
 ) -> Result<(), AllocError> {
     let Some(found) = ranges(alloc, rules, narrow)? else {
-        assert_eq!(rt; high.len(), 0);
+        assert!(rt; high.len() == 0);
         return Ok(());
     };
-    assert_eq!(rt; found.least(alloc)?.speeds(), low);
-    assert_eq!(rt; found.greatest(alloc)?.speeds(), high);
-    assert_eq!(rt; found.points(), high.len());
-    assert_eq!(rt; found.points(), low.len());
+    assert!(rt; found.least(alloc)?.speeds() == low);
+    assert!(rt; found.greatest(alloc)?.speeds() == high);
+    assert!(rt; found.points() == high.len());
+    assert!(rt; found.points() == low.len());
     for k in 0..found.points() {
-        assert_eq!(rt; found.low(k), low[k]);
-        assert_eq!(rt; found.high(k), high[k]);
+        assert!(rt; found.low(k) == low[k]);
+        assert!(rt; found.high(k) == high[k]);
     }
     let pairs = found.pairs(alloc)?;
     for (k, pair) in pairs.iter().enumerate() {
         assert!(rt; k < low.len() && k < high.len());
-        assert_eq!(rt; *pair, (low[k], high[k]));
+        assert!(rt; *pair == (low[k], high[k]));
     }
     Ok(())
 }
@@ -135,17 +135,17 @@ fn compare_greatest(
 {
     let none = Narrow::none();
     let Some(plain) = greatest_drive(alloc, rules)? else {
-        assert_eq!(rt; high.len(), 0);
+        assert!(rt; high.len() == 0);
         return Ok(());
     };
     let Some(known) = greatest_under(alloc, rules, &none)? else {
-        assert_eq!(rt; high.len(), 0);
+        assert!(rt; high.len() == 0);
         return Ok(());
     };
-    assert_eq!(rt; known.speeds(), plain.speeds());
+    assert!(rt; known.speeds() == plain.speeds());
     match greatest_from(alloc, rules, narrow, &none, &known)? {
-        Some(found) => assert_eq!(rt; found.speeds(), high),
-        None => assert_eq!(rt; high.len(), 0),
+        Some(found) => assert!(rt; found.speeds() == high),
+        None => assert!(rt; high.len() == 0),
     }
     Ok(())
 }

@@ -58,26 +58,26 @@ fn a_train_is_read(rt: HostRuntime) -> Result<(), Fail> {
         traction,
         brake,
     } = train.copy(alloc)?;
-    assert_eq!(rt; version, 2);
-    assert_eq!(rt; length, 400);
-    assert_eq!(rt; regeneration, 500);
-    assert_eq!(rt; mass, 1000);
-    assert_eq!(rt; inertia, 1100);
-    assert_eq!(rt; a, 1000);
-    assert_eq!(rt; b, 20);
-    assert_eq!(rt; c, 3);
-    assert_eq!(rt; traction.top(), 1000);
-    assert_eq!(rt; brake.top(), 1000);
-    assert_eq!(rt; traction.at(0), 51_000);
-    assert_eq!(rt; traction.at(999), 50_001);
-    assert_eq!(rt; brake.at(1000), 100_000);
+    assert!(rt; version == 2);
+    assert!(rt; length == 400);
+    assert!(rt; regeneration == 500);
+    assert!(rt; mass == 1000);
+    assert!(rt; inertia == 1100);
+    assert!(rt; a == 1000);
+    assert!(rt; b == 20);
+    assert!(rt; c == 3);
+    assert!(rt; traction.top() == 1000);
+    assert!(rt; brake.top() == 1000);
+    assert!(rt; traction.at(0) == 51_000);
+    assert!(rt; traction.at(999) == 50_001);
+    assert!(rt; brake.at(1000) == 100_000);
     Ok(())
 }
 
 #[test]
 fn other_texts_are_accepted(rt: HostRuntime) -> Result<(), Fail> {
     let alloc = rt.alloc();
-    let table: [(usize, &[u8]); 10] = [
+    const TABLE: &[(usize, &[u8])] = &[
         (1, b"version = 1\nmass = 1000\n"),
         (1, b"# a comment\nname = \"x\"\nmass = 1_000\n"),
         (1, b"mass = 0x3E8\r\n"),
@@ -92,20 +92,20 @@ fn other_texts_are_accepted(rt: HostRuntime) -> Result<(), Fail> {
         (1, b"version = 2\nregeneration = 0\nmass = 1000\n"),
         (5, b"c = 0\n"),
     ];
-    for (n, new) in table {
+    for &(n, new) in TABLE {
         let text = changed(alloc, n, new)?;
-        assert_eq!(rt; refusal(alloc, &text), None, "{n}");
+        assert!(rt; refusal(alloc, &text) == None, "{n}");
     }
     let one_row =
         b"brake = [[0, 7]]\ntraction = [[0, 9]]\nc = 1\nb = 1\na = 1\ninertia = 1\nmass = 1";
-    assert_eq!(rt; refusal(alloc, one_row), None);
+    assert!(rt; refusal(alloc, one_row) == None);
     Ok(())
 }
 
 #[test]
 fn each_key_is_needed(rt: HostRuntime) -> Result<(), Fail> {
     let alloc = rt.alloc();
-    let keys = [
+    const KEYS: &[Key] = &[
         Key::Mass,
         Key::Inertia,
         Key::A,
@@ -114,22 +114,21 @@ fn each_key_is_needed(rt: HostRuntime) -> Result<(), Fail> {
         Key::Traction,
         Key::Brake,
     ];
-    for (i, key) in keys.iter().enumerate() {
+    for (i, key) in KEYS.iter().enumerate() {
         let text = changed(alloc, i.wrapping_add(1), b"")?;
-        assert_eq!(rt;
-            refusal(alloc, &text),
-            Some(TrainFault::Missing(*key)),
+        assert!(rt;
+            refusal(alloc, &text) == Some(TrainFault::Missing(*key)),
             "{i}"
         );
     }
-    assert_eq!(rt; refusal(alloc, b""), Some(TrainFault::Missing(Key::Mass)));
+    assert!(rt; refusal(alloc, b"") == Some(TrainFault::Missing(Key::Mass)));
     Ok(())
 }
 
 #[test]
 fn texts_and_kinds_are_refused(rt: HostRuntime) -> Result<(), Fail> {
     let alloc = rt.alloc();
-    let table: [(usize, &[u8], TrainFault); 19] = [
+    const TABLE: &[(usize, &[u8], TrainFault)] = &[
         (1, b"mass =\n", TrainFault::Text),
         (1, b"mass = 1\nmass = 1\n", TrainFault::Text),
         (1, b"mass = 1 # \xFF\n", TrainFault::Text),
@@ -182,9 +181,9 @@ fn texts_and_kinds_are_refused(rt: HostRuntime) -> Result<(), Fail> {
         ),
         (7, b"brake = [[0]]\n", TrainFault::WrongKind(Key::Brake)),
     ];
-    for (n, new, fault) in table {
+    for &(n, new, fault) in TABLE {
         let text = changed(alloc, n, new)?;
-        assert_eq!(rt; refusal(alloc, &text), Some(fault), "{n}");
+        assert!(rt; refusal(alloc, &text) == Some(fault), "{n}");
     }
     Ok(())
 }
@@ -192,7 +191,7 @@ fn texts_and_kinds_are_refused(rt: HostRuntime) -> Result<(), Fail> {
 #[test]
 fn ranges_are_held(rt: HostRuntime) -> Result<(), Fail> {
     let alloc = rt.alloc();
-    let table: [(usize, &[u8], Option<Key>); 22] = [
+    const TABLE: &[(usize, &[u8], Option<Key>)] = &[
         (1, b"mass = 0\n", Some(Key::Mass)),
         (1, b"mass = 1\n", None),
         (1, b"mass = 100000\n", None),
@@ -224,10 +223,10 @@ fn ranges_are_held(rt: HostRuntime) -> Result<(), Fail> {
             Some(Key::Brake),
         ),
     ];
-    for (n, new, key) in table {
+    for &(n, new, key) in TABLE {
         let text = changed(alloc, n, new)?;
         let fault = key.map(|k| TrainFault::OutOfRange(k));
-        assert_eq!(rt; refusal(alloc, &text), fault, "{n}");
+        assert!(rt; refusal(alloc, &text) == fault, "{n}");
     }
     Ok(())
 }
@@ -235,7 +234,7 @@ fn ranges_are_held(rt: HostRuntime) -> Result<(), Fail> {
 #[test]
 fn tables_are_refused(rt: HostRuntime) -> Result<(), Fail> {
     let alloc = rt.alloc();
-    let table: [(usize, &[u8], TrainFault); 9] = [
+    const TABLE: &[(usize, &[u8], TrainFault)] = &[
         (6, b"traction = []\n", TrainFault::TableStart(Key::Traction)),
         (
             6,
@@ -266,20 +265,18 @@ fn tables_are_refused(rt: HostRuntime) -> Result<(), Fail> {
         (7, b"brake = [[0, 5], [1001, 5]]\n", TrainFault::TopsDiffer),
         (6, b"traction = [[0, 0]]\n", TrainFault::TopsDiffer),
     ];
-    for (n, new, fault) in table {
+    for &(n, new, fault) in TABLE {
         let text = changed(alloc, n, new)?;
-        assert_eq!(rt; refusal(alloc, &text), Some(fault), "{n}");
+        assert!(rt; refusal(alloc, &text) == Some(fault), "{n}");
     }
-    assert_eq!(rt;
-        refusal(alloc, b"traction = 5\nmass = 0\n"),
-        Some(TrainFault::OutOfRange(Key::Mass))
+    assert!(rt;
+        refusal(alloc, b"traction = 5\nmass = 0\n") == Some(TrainFault::OutOfRange(Key::Mass))
     );
-    assert_eq!(rt;
+    assert!(rt;
         refusal(
             alloc,
             b"traction = [[1, 1]]\nmass = 1\ninertia = 1\na = 1\nb = 1\nc = 1\n"
-        ),
-        Some(TrainFault::TableStart(Key::Traction))
+        ) == Some(TrainFault::TableStart(Key::Traction))
     );
     Ok(())
 }

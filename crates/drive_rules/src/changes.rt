@@ -90,6 +90,3 @@ impl Rules {
         rule_changes::advance_to(&mut self.parts, line, stretches, place, speed, later, steps);
     }
 }
-
-#[cfg(test)]
-mod tests;

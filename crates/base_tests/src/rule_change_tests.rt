@@ -5,9 +5,8 @@ ghost use Rattle.line_file.specs.Shape.{IsLine};
 ghost use Rattle.rule_changes.specs.Advance.{StayInRange};
 ghost use Rattle.rule_changes.specs.Limits.{IsOnLine};
 
-use crate::rules::Rules;
-use crate::tests::example;
-use joined_rules::Stretch;
+use crate::small_rules::{LINE, joined_rules};
+use drive_rules::{Rules, Stretch};
 use line_file::{Line, read_line};
 use rail_specs::Timing;
 use std::marker::Brand;
@@ -30,47 +29,42 @@ fn is_on_line(rules: &Rules, line: &Line) -> bool
     true
 }
 
-/// The limits of two steps, once they are set with one stretch.
-fn limits_with(rules: &mut Rules, line: &Line, stretch: Stretch) -> Option<(u16, u16)>
+/// The limits of the first three of four steps, once they are set with one stretch.
+fn limits_with(rules: &mut Rules, line: &Line, stretch: Stretch) -> Option<(u16, u16, u16)>
     requires line { IsLine line.now }
-    requires two { length rules.old.steps ≡ 2 }
-    ensures two { length rules.new.steps ≡ 2 }
+    requires four { length rules.old.steps ≡ 4 }
+    ensures four { length rules.new.steps ≡ 4 }
 {
     let is_stretch = stretch.from < stretch.to && 1 <= stretch.limit && stretch.limit <= 12_000;
     if !is_stretch || !is_on_line(rules, line) {
         return None;
     }
     rules.set_limits(line, &[stretch]);
-    Some((rules.limit(0), rules.limit(1)))
+    Some((rules.limit(0), rules.limit(1), rules.limit(2)))
 }
-
-/// A level line of 200 m with a limit of 1,000 cm/s.
-const LINE: &[u8] = b"kind,from,to,value\nlimit,0,200,36\ngradient,0,200,0\n";
 
 #[test]
 fn limits_are_those_of_the_last_stretch(rt: HostRuntime) {
-    let Some(mut rules) = example(rt.alloc(), 51_000, 50_000) else {
-        panic!(rt; "the example cannot be made");
+    let Some(mut rules) = joined_rules(rt.alloc()) else {
+        panic!(rt; "the rules cannot be made");
     };
     let Ok(line) = read_line(rt.alloc(), LINE) else {
         panic!(rt; "the line cannot be read");
     };
+    assert!(rt; rules.steps() == 4);
     // The train is 50 m long: on the second step its tail has yet to leave a stretch that ends at 51, and has left one that ends at 50.
     for (from, to, wanted) in [
-        (30, 51, (300, 300)),
-        (30, 50, (300, 1000)),
-        (100, 200, (1000, 300)),
+        (30, 51, (300, 300, 1000)),
+        (30, 50, (300, 1000, 1000)),
+        (100, 200, (1000, 300, 300)),
     ] {
         let stretch = Stretch {
             from,
             to,
             limit: 300,
         };
-        assert_eq!(rt;
-            limits_with(&mut rules, &line, stretch),
-            Some(wanted),
-            "from {from} to {to}"
-        );
+        let limits = limits_with(&mut rules, &line, stretch);
+        assert!(rt; limits == Some(wanted), "from {from} to {to}");
     }
 }
 
@@ -90,9 +84,10 @@ fn can_set(rules: &mut Rules, point: u32, latest: i64) -> bool
 
 #[test]
 fn a_latest_time_is_added_and_set(rt: HostRuntime) {
-    let Some(mut rules) = example(rt.alloc(), 51_000, 50_000) else {
-        panic!(rt; "the example cannot be made");
+    let Some(mut rules) = joined_rules(rt.alloc()) else {
+        panic!(rt; "the rules cannot be made");
     };
+    assert!(rt; rules.steps() == 4);
     let is_added = can_set(&mut rules, 1, 40_000);
     let is_set = can_set(&mut rules, 1, -30_000);
     assert!(rt; is_added && is_set);
@@ -102,7 +97,7 @@ fn a_latest_time_is_added_and_set(rt: HostRuntime) {
     };
     assert!(rt; timings.len() == 2);
     assert!(rt; (first.point, first.latest) == (1, -30_000));
-    assert!(rt; (last.point, last.latest) == (2, 50_000));
+    assert!(rt; (last.point, last.latest) == (4, 130_000));
 }
 
 /// Whether no latest time falls too low where all fall by so many ms.
@@ -150,18 +145,19 @@ fn can_advance(rules: &mut Rules, line: &Line, place: u32, later: i64) -> bool
 
 #[test]
 fn a_train_goes_on_from_later_places(rt: HostRuntime) {
-    let Some(mut rules) = example(rt.alloc(), 51_000, 100_000) else {
-        panic!(rt; "the example cannot be made");
+    let Some(mut rules) = joined_rules(rt.alloc()) else {
+        panic!(rt; "the rules cannot be made");
     };
     let Ok(line) = read_line(rt.alloc(), LINE) else {
         panic!(rt; "the line cannot be read");
     };
-    // Between two points, at a point with a dwell, and between the last two: the steps that are left, the length of the first of them, and
-    // the latest time at the end.
+    // Between two points, at a point with a dwell, behind it, and between the last two: the steps that are left, the length of the first of
+    // them, and the latest time at the end.
     for (place, steps, metres, latest) in [
-        (50, 2, 50, 90_000),
-        (100, 1, 100, 80_000),
-        (130, 1, 70, 70_000),
+        (50, 4, 50, 120_000),
+        (200, 2, 100, 110_000),
+        (230, 2, 70, 100_000),
+        (330, 1, 70, 90_000),
     ] {
         assert!(rt; can_advance(&mut rules, &line, place, 10_000));
         assert!(rt; (rules.place(0), rules.start(), rules.steps()) == (place, 900, steps));

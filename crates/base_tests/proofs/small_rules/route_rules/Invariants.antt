@@ -1,4 +1,4 @@
-use Rattle.drive_rules.proofs.tests.route_rules.Given as goal
+use Rattle.base_tests.proofs.small_rules.route_rules.Given as goal
 
 abbrev pub ghosts-read_with : goal.ghosts-read_with
 ghosts-read_with a = record { name = a.blank.name; parts = a.blank.parts }

@@ -5,7 +5,7 @@ use Rattle.std.specs.List.{filter}
 use Rattle.std.proofs.lemmas.List.Sums.{length-filter, count_by-le-length}
 use Rattle.rail_specs.specs.declared.Timing.{Timing}
 use Rattle.rule_changes.specs.Latest.{with_latest}
-use Rattle.drive_rules.proofs.changes.tests.can_set.Goals as goal
+use Rattle.base_tests.proofs.rule_change_tests.can_set.Goals as goal
 
 few : (timings : List Timing) (point : ℕ) (latest : ℤ) → length (with_latest timings point latest) ≤ 2 * length timings + 1
 few timings point latest =

@@ -1,4 +1,0 @@
-use Rattle.drive_rules.proofs.tests.judged_alike.Given as goal
-
-abbrev pub ghosts-read_with : goal.ghosts-read_with
-ghosts-read_with a = record { name = a.blank.name; parts = a.blank.parts }
