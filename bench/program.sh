@@ -1,4 +1,4 @@
-# Read by route.sh, plan.sh, plans.sh, check.sh, costates.sh, samples.sh and sessions.sh: builds the program, `advice` or the one that `program` names, and counts what a run of it takes.
+# Read by route.sh, plan.sh, plans.sh, check.sh, costates.sh, samples.sh, sessions.sh and sheets.sh: builds the program, `advice` or the one that `program` names, and counts what a run of it takes.
 # Needs rt, valgrind and /usr/bin/time.
 top=$(cd "$(dirname "$0")/.." && pwd)
 work=$(mktemp -d)

@@ -180,13 +180,13 @@ try 0 answers/sheet/6km.txt 6km/line.csv 6km/train.toml 6km/timed.csv "$plan" --
 try 0 answers/sheet/6km.csv 6km/line.csv 6km/train.toml 6km/timed.csv "$plan" --step 500 --form points
 try 0 ../docs/picture/6km.svg 6km/line.csv 6km/train.toml 6km/timed.csv "$plan" --step 500 --form svg
 planned 40km/line.csv 40km/train.toml 40km/service.csv
-for form in timetable points svg; do
-    try 0 answers/sheet/40km_$form.txt 40km/line.csv 40km/train.toml 40km/service.csv "$plan" --form $form
-done
+try 0 answers/sheet/40km.txt 40km/line.csv 40km/train.toml 40km/service.csv "$plan"
+try 0 answers/sheet/40km.csv 40km/line.csv 40km/train.toml 40km/service.csv "$plan" --form points
+try 0 answers/sheet/40km.svg 40km/line.csv 40km/train.toml 40km/service.csv "$plan" --form svg
 planned sample/line.csv sample/train.toml sample/service.csv
-for form in timetable points svg; do
-    try 0 answers/sheet/sample_$form.txt sample/line.csv sample/train.toml sample/service.csv "$plan" --form $form
-done
+try 0 answers/sheet/sample.txt sample/line.csv sample/train.toml sample/service.csv "$plan"
+try 0 answers/sheet/sample.csv sample/line.csv sample/train.toml sample/service.csv "$plan" --form points
+try 0 answers/sheet/sample.svg sample/line.csv sample/train.toml sample/service.csv "$plan" --form svg
 try 0 answers/sheet/200m.txt 200m/line.csv 200m/train.toml 200m/service.csv answers/200m.txt
 try 0 answers/sheet/200m_regaining.txt 200m/line.csv regaining/train.toml 200m/service.csv answers/regaining.txt
 
