@@ -169,7 +169,7 @@ try 2 "$usage" route two_steps.route --splits 0
 # The program `sheet`: each form of the drives of reports by `costate`, whole, and of one by `advice`.
 program=sheet
 title='no line of a sheet'
-usage='usage: sheet LINE TRAIN SERVICE REPORT [--step N] [--form timetable|points|svg]|'
+usage=answers/sheet/usage.txt
 
 planned() { # the words of a plan of `costate`, whose report is kept for what follows
     ../costate plan "$@" >"$plan"
