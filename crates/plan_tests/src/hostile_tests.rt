@@ -11,6 +11,9 @@ use std::cell::Cell;
 use std::rc::Rc;
 use std::test::Fail;
 
+/// The speeds of the drive that a plan over two steps finds without boxes.
+const SAME: &[u16] = &[0, 800, 0];
+
 /// What a plan with one box leaves.
 #[derive(Debug, PartialEq, Eq, Drop)]
 struct Left {
@@ -58,17 +61,15 @@ fn is_unchanged(
 fn hostile_boxes_change_nothing(rt: HostRuntime) -> Result<(), Fail> {
     let alloc = rt.alloc();
     let rules = two_steps(alloc, 50)?.expect(&rt, "rules");
-    assert!(rt; is_unchanged(alloc, &rules, &[], 0)?, "silent");
-    assert!(rt;
-        is_unchanged(alloc, &rules, &[&[], &[0], &[0, 800]], 1)?,
-        "short"
-    );
-    assert!(rt;
-        is_unchanged(alloc, &rules, &[&[65535, 65535, 65535], &[0, 65535, 0]], 1)?,
-        "wild"
-    );
-    let same: &[u16] = &[0, 800, 0];
-    let often = vec![in alloc; same; 4096]?;
+    const CASES: &[(&str, &[&[u16]], usize)] = &[
+        ("silent", &[], 0),
+        ("short", &[&[], &[0], &[0, 800]], 1),
+        ("wild", &[&[65535, 65535, 65535], &[0, 65535, 0]], 1),
+    ];
+    for &(name, offers, boxes) in CASES {
+        assert!(rt; is_unchanged(alloc, &rules, offers, boxes)?, "{name}");
+    }
+    let often = vec![in alloc; SAME; 4096]?;
     assert!(rt; is_unchanged(alloc, &rules, often.as_slice(), 1)?, "same");
     Ok(())
 }
@@ -77,8 +78,7 @@ fn hostile_boxes_change_nothing(rt: HostRuntime) -> Result<(), Fail> {
 fn a_box_that_wants_memory_ends_the_plan(rt: HostRuntime) -> Result<(), Fail> {
     let alloc = rt.alloc();
     let rules = two_steps(alloc, 50)?.expect(&rt, "rules");
-    let same: &[u16] = &[0, 800, 0];
-    assert_eq!(rt; left_by(alloc, &rules, &[same, same], 1), Err(AllocError));
+    assert!(rt; left_by(alloc, &rules, &[SAME, SAME], 1) == Err(AllocError));
     Ok(())
 }
 
@@ -89,7 +89,7 @@ fn a_better_offer_is_taken(rt: HostRuntime) -> Result<(), Fail> {
     let rules = three_steps(alloc)?.expect(&rt, "rules");
     let got = left_by(alloc, &rules, &[&[0, 840, 828, 0]], usize::MAX)?;
     assert!(rt; got.energy.is_some_and(|energy| energy <= 7_256_000_000_000));
-    assert_eq!(rt; got.boxes, 1);
+    assert!(rt; got.boxes == 1);
     Ok(())
 }
 
@@ -98,16 +98,16 @@ fn a_box_is_asked_for_all(rt: HostRuntime) -> Result<(), Fail> {
     let alloc = rt.alloc();
     let rules = two_steps(alloc, 50)?.expect(&rt, "rules");
     let drops = Rc::new(alloc, Cell::new(0))?;
-    let offers: [&[u16]; 3] = [&[0, 800, 0], &[0, 1], &[0, 700, 0]];
-    let mut listed = Listed::make(alloc, &offers, 3, &drops)?.expect(&rt, "a box");
+    const OFFERS: &[&[u16]] = &[&[0, 800, 0], &[0, 1], &[0, 700, 0]];
+    let mut listed = Listed::make(alloc, OFFERS, 3, &drops)?.expect(&rt, "a box");
     let mut best = Drive::make(alloc, &[0, 1000, 0])?;
     let Judged::Kept { .. } = rules.judge(best.speeds(), &Traction) else {
         panic!(rt; "the drive isn't on time");
     };
     let asked = ask_all(alloc, &mut listed, &rules, &Traction, &mut best)?;
-    assert_eq!(rt; asked, 3);
-    assert_eq!(rt; best.speeds(), [0, 800, 0].as_slice());
+    assert!(rt; asked == 3);
+    assert!(rt; best.speeds() == [0, 800, 0].as_slice());
     assert!(rt; listed.next(alloc)?.is_none());
-    assert_eq!(rt; listed.taken(), 3);
+    assert!(rt; listed.taken() == 3);
     Ok(())
 }

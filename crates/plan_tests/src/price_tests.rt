@@ -2,6 +2,7 @@
 
 use crate::plans::{Seen, seen_plan};
 use crate::routes::{LEVEL, route, three_steps, two_steps};
+use drive_rules::Judged;
 use phase_composer::{Composed, compose};
 use rail_base::Traction;
 use std::test::Fail;
@@ -29,10 +30,7 @@ fn prices_and_splits_raise_the_bound(rt: HostRuntime) -> Result<(), Fail> {
             splits,
             met: false,
         };
-        assert_eq!(rt;
-            seen_plan(alloc, two_steps(alloc, 50)?, splits, TOLERANCE)?,
-            Some(wanted)
-        );
+        assert!(rt; seen_plan(alloc, two_steps(alloc, 50)?, splits, TOLERANCE)? == Some(wanted));
     }
     Ok(())
 }
@@ -41,15 +39,15 @@ fn prices_and_splits_raise_the_bound(rt: HostRuntime) -> Result<(), Fail> {
 fn the_bound_meets_the_energy(rt: HostRuntime) -> Result<(), Fail> {
     let alloc = rt.alloc();
     let found = seen_plan(alloc, two_steps(alloc, 50)?, SPLITS, TOLERANCE)?.expect(&rt, "a plan");
-    assert_eq!(rt; found.speeds.as_slice(), [0, 800, 0].as_slice());
-    assert_eq!(rt; found.energy, 6_600_000_000_000);
+    assert!(rt; found.speeds.as_slice() == [0, 800, 0].as_slice());
+    assert!(rt; found.energy == 6_600_000_000_000);
     assert!(rt; found.bound >= 6_534_000_000_000 && found.bound <= found.energy);
     assert!(rt; found.met);
 
     let fast = seen_plan(alloc, two_steps(alloc, 40)?, SPLITS, 0)?.expect(&rt, "a plan");
-    assert_eq!(rt; fast.speeds.as_slice(), [0, 1000, 0].as_slice());
-    assert_eq!(rt; fast.energy, 10_200_000_000_000);
-    assert_eq!(rt; fast.bound, 10_200_000_000_000);
+    assert!(rt; fast.speeds.as_slice() == [0, 1000, 0].as_slice());
+    assert!(rt; fast.energy == 10_200_000_000_000);
+    assert!(rt; fast.bound == 10_200_000_000_000);
     assert!(rt; fast.met);
     Ok(())
 }
@@ -59,12 +57,12 @@ fn the_bound_meets_the_energy(rt: HostRuntime) -> Result<(), Fail> {
 fn times_rounded_down_keep_the_gap_open(rt: HostRuntime) -> Result<(), Fail> {
     let alloc = rt.alloc();
     let found = seen_plan(alloc, two_steps(alloc, 67)?, SPLITS, 3)?.expect(&rt, "a plan");
-    assert_eq!(rt; found.speeds.as_slice(), [0, 598, 0].as_slice());
-    assert_eq!(rt; found.energy, 3_776_040_000_000);
+    assert!(rt; found.speeds.as_slice() == [0, 598, 0].as_slice());
+    assert!(rt; found.energy == 3_776_040_000_000);
     assert!(rt; found.bound <= 3_764_090_000_000);
     assert!(rt; !found.met);
-    assert_eq!(rt; found.splits, 999);
-    assert_eq!(rt; found.cells, 1002);
+    assert!(rt; found.splits == 999);
+    assert!(rt; found.cells == 1002);
     Ok(())
 }
 
@@ -77,9 +75,9 @@ fn downhill_the_bound_is_0(rt: HostRuntime) -> Result<(), Fail> {
     let found = seen_plan(alloc, rules, 0, TOLERANCE)?.expect(&rt, "a plan");
     let middle = found.speeds.get(1).copied().unwrap_or(0);
     assert!(rt; middle >= 572 && middle <= 610, "{middle}");
-    assert_eq!(rt; found.energy, 0);
-    assert_eq!(rt; found.bound, 0);
-    assert_eq!(rt; found.cells, 3);
+    assert!(rt; found.energy == 0);
+    assert!(rt; found.bound == 0);
+    assert!(rt; found.cells == 3);
     assert!(rt; found.met);
     Ok(())
 }
@@ -87,15 +85,18 @@ fn downhill_the_bound_is_0(rt: HostRuntime) -> Result<(), Fail> {
 #[test]
 fn without_a_drive_on_time_there_is_no_plan(rt: HostRuntime) -> Result<(), Fail> {
     let alloc = rt.alloc();
-    assert_eq!(rt;
-        seen_plan(alloc, two_steps(alloc, 39)?, SPLITS, TOLERANCE)?,
-        None
-    );
-    let weak = route(alloc, 18_821, 67, &[LEVEL, LEVEL])?;
-    assert_eq!(rt; seen_plan(alloc, weak, SPLITS, TOLERANCE)?, None);
-    let steep = "100 600 1000";
-    let uphill = route(alloc, 51_000, 50, &[steep, steep])?;
-    assert_eq!(rt; seen_plan(alloc, uphill, SPLITS, TOLERANCE)?, None);
+    const CASES: &[(u32, u32, &[&str])] = &[
+        (51_000, 39, &[LEVEL, LEVEL]),
+        (18_821, 67, &[LEVEL, LEVEL]),
+        (51_000, 50, &["100 600 1000", "100 600 1000"]),
+    ];
+    for &(traction, latest, steps) in CASES {
+        let rules = route(alloc, traction, latest, steps)?;
+        assert!(rt;
+            seen_plan(alloc, rules, SPLITS, TOLERANCE)? == None,
+            "within {latest} s"
+        );
+    }
     Ok(())
 }
 
@@ -103,11 +104,11 @@ fn without_a_drive_on_time_there_is_no_plan(rt: HostRuntime) -> Result<(), Fail>
 #[test]
 fn the_best_of_the_family(rt: HostRuntime) -> Result<(), Fail> {
     let alloc = rt.alloc();
-    let cases: [(bool, &[u16], i128); 2] = [
+    const CASES: &[(bool, &[u16], i128)] = &[
         (false, &[0, 800, 0], 6_600_000_000_000),
         (true, &[0, 834, 834, 0], 7_355_560_000_000),
     ];
-    for (three, speeds, energy) in cases {
+    for &(three, speeds, energy) in CASES {
         let made = if three {
             three_steps(alloc)?
         } else {
@@ -117,11 +118,8 @@ fn the_best_of_the_family(rt: HostRuntime) -> Result<(), Fail> {
         let Composed::Best(drive) = compose(alloc, &rules, &Traction)? else {
             panic!(rt; "no drive is on time");
         };
-        assert_eq!(rt; drive.speeds(), speeds);
-        assert_eq!(rt;
-            rules.judge(speeds, &Traction),
-            drive_rules::Judged::Kept { cost: energy }
-        );
+        assert!(rt; drive.speeds() == speeds);
+        assert!(rt; rules.judge(speeds, &Traction) == Judged::Kept { cost: energy });
     }
     Ok(())
 }

@@ -28,7 +28,7 @@ fn the_even_cells_come_first(rt: HostRuntime) -> Result<(), Fail> {
             &rt, "a plan",
         );
         assert!(rt; plan.splits <= 4);
-        assert_eq!(rt; plan.cells.points(), 4);
+        assert!(rt; plan.cells.points() == 4);
         for point in [1, 2] {
             assert!(rt; plan.met || begins_at(&plan.cells, point, 501), "{point}");
         }
