@@ -19,17 +19,11 @@ fn one_text(rt: HostRuntime) -> Result<(), Fail> {
     let certificate = read(rt.alloc(), part)
         .ok()
         .ok_or("the part is a certificate")?;
-    assert_eq!(rt; certificate.points.items().len(), 2);
-    assert_eq!(rt; certificate.points.items()[1].cells.items().len(), 2);
+    assert!(rt; certificate.points.items().len() == 2);
+    assert!(rt; certificate.points.items()[1].cells.items().len() == 2);
     let text = write(rt.alloc(), &certificate)?;
-    assert_eq!(rt; text.as_slice(), part);
-    assert_eq!(rt;
-        fault_of(rt.alloc(), &part[..part.len() - 1]),
-        Some(CertFault::Form(8))
-    );
-    assert_eq!(rt;
-        fault_of(rt.alloc(), certificate_part(&REPORT[..24])),
-        Some(CertFault::Form(1))
-    );
+    assert!(rt; text.as_slice() == part);
+    assert!(rt; fault_of(rt.alloc(), &part[..part.len() - 1]) == Some(CertFault::Form(8)));
+    assert!(rt; fault_of(rt.alloc(), certificate_part(&REPORT[..24])) == Some(CertFault::Form(1)));
     Ok(())
 }

@@ -22,7 +22,7 @@ enum Outcome {
 
 /// A certificate behind its first line, which is `certificate 1`, and the answer. The first holds; each other one differs from it in one line,
 /// or in as many as another one that holds needs.
-const CASES: [(&str, Outcome); 25] = [
+const CASES: &[(&str, Outcome)] = &[
     (
         "points 3\nenergy 6600000000000\nbound 200010000000\nprices 0\npoint 0 0 0=200010000000\npoint 800 1000 1=0\npoint 0 0 0=0\nend\n",
         Outcome::Certified,
@@ -141,8 +141,8 @@ fn answer(rt: &impl Abort, alloc: Global, rules: &Rules, lines: &str) -> Outcome
 fn hostile_certificates(rt: HostRuntime) -> Result<(), Fail> {
     let alloc = rt.alloc();
     let rules = rules_of(alloc, TWO_STEPS)?;
-    for (lines, expected) in CASES {
-        assert_eq!(rt; answer(&rt, alloc, &rules, lines), expected);
+    for &(lines, expected) in CASES {
+        assert!(rt; answer(&rt, alloc, &rules, lines) == expected, "{lines}");
     }
     Ok(())
 }

@@ -11,7 +11,7 @@ use std::process::Abort;
 use std::test::Fail;
 
 /// The lines of a certificate behind its title, and how it is answered; none where it is certified.
-const CASES: [(&str, Option<Refused>); 12] = [
+const CASES: &[(&str, Option<Refused>)] = &[
     (
         "points 3\nenergy 3776040000000\nbound 3764035312412\nprices 106744794\nspeeds 0 598 0\ncostates 64000 0\n",
         None,
@@ -63,7 +63,7 @@ const CASES: [(&str, Option<Refused>); 12] = [
 ];
 
 /// The lines of a text behind its title, and why it is refused.
-const TEXTS: [(&str, CertFault); 8] = [
+const TEXTS: &[(&str, CertFault)] = &[
     ("points 1\n", CertFault::Range(2)),
     (
         "points 3\nenergy 1\nbound 0\nprices 0\nspeeds 0 598\n",
@@ -115,11 +115,11 @@ fn fault_of(rt: &impl Abort, alloc: Global, lines: &str) -> Option<CertFault> {
 fn hostile_certificates(rt: HostRuntime) -> Result<(), Fail> {
     let alloc = rt.alloc();
     let rules = rules_of(alloc, SLOWER_TWO_STEPS)?;
-    for (lines, refused) in CASES {
-        assert_eq!(rt; answer(&rt, alloc, &rules, lines), refused);
+    for &(lines, refused) in CASES {
+        assert!(rt; answer(&rt, alloc, &rules, lines) == refused, "{lines}");
     }
-    for (lines, fault) in TEXTS {
-        assert_eq!(rt; fault_of(&rt, alloc, lines), Some(fault));
+    for &(lines, fault) in TEXTS {
+        assert!(rt; fault_of(&rt, alloc, lines) == Some(fault), "{lines}");
     }
     Ok(())
 }
@@ -132,6 +132,6 @@ fn one_text(rt: HostRuntime) -> Result<(), Fail> {
         .ok()
         .ok_or("the text is a certificate")?;
     let written = write(rt.alloc(), &certificate)?;
-    assert_eq!(rt; written.as_slice(), text.as_slice());
+    assert!(rt; written.as_slice() == text.as_slice());
     Ok(())
 }

@@ -40,6 +40,6 @@ fn two_steps(rt: HostRuntime) -> Result<(), Fail> {
     let alloc = rt.alloc();
     let rules = rules_of(alloc, SLOWER_TWO_STEPS)?;
     let bound = found_bound(alloc, &rules, 106_744_794, 598)?;
-    assert_eq!(rt; bound, Some(3_764_035_312_412));
+    assert!(rt; bound == Some(3_764_035_312_412));
     Ok(())
 }

@@ -32,7 +32,7 @@ fn finds_the_least_drive(rt: HostRuntime) -> Result<(), Fail> {
     let fast = Drive::make(alloc, &[0, 1000, 1000, 1000, 0])?;
     let mut best = kept_of(&rules, &Traction, fast).ok_or("late")?;
     let prices = search_drive(alloc, &rules, &Traction, &mut best)?;
-    assert_eq!(rt; best.cost, 4_853_390_000_000);
-    assert_eq!(rt; prices.len(), 1);
+    assert!(rt; best.cost == 4_853_390_000_000);
+    assert!(rt; prices.len() == 1);
     Ok(())
 }

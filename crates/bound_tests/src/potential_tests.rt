@@ -12,6 +12,14 @@ use rail_base::{Cell, CellCost, Traction};
 use speed_cells::Cells;
 use std::alloc::{AllocError, Global};
 
+/// The potentials of the cells, point by point, where the middle has two cells and the price is 62,750,000.
+const PRICED: &[Option<i128>] = &[
+    Some(5_220_010_000_000),
+    Some(2_510_000_000_000),
+    Some(1_255_000_000_000),
+    Some(0),
+];
+
 /// The potentials of three points' cells with one price, point by point, and their bound; none where something doesn't fit.
 fn dual(
     alloc: Global,
@@ -49,11 +57,9 @@ fn one_cell_a_point(rt: HostRuntime) {
     let Ok(Some((values, bound))) = dual(alloc, &rules, &cells, 0) else {
         panic!(rt; "no memory for potentials");
     };
-    assert_eq!(rt;
-        values.as_slice(),
-        [Some(200_010_000_000), Some(0), Some(0)].as_slice()
-    );
-    assert_eq!(rt; bound, Some(200_010_000_000));
+    const VALUES: &[Option<i128>] = &[Some(200_010_000_000), Some(0), Some(0)];
+    assert!(rt; values.as_slice() == VALUES);
+    assert!(rt; bound == Some(200_010_000_000));
 }
 
 #[test]
@@ -69,14 +75,8 @@ fn two_cells_in_the_middle(rt: HostRuntime) {
     let Ok(Some((values, bound))) = dual(alloc, &rules, &cells, 62_750_000) else {
         panic!(rt; "no memory for potentials");
     };
-    let expected = [
-        Some(5_220_010_000_000),
-        Some(2_510_000_000_000),
-        Some(1_255_000_000_000),
-        Some(0),
-    ];
-    assert_eq!(rt; values.as_slice(), expected.as_slice());
-    assert_eq!(rt; bound, Some(2_082_510_000_000));
+    assert!(rt; values.as_slice() == PRICED);
+    assert!(rt; bound == Some(2_082_510_000_000));
 }
 
 #[test]
@@ -92,8 +92,9 @@ fn no_chain_from_the_start(rt: HostRuntime) {
     let Ok(Some((values, bound))) = dual(alloc, &rules, &cells, 0) else {
         panic!(rt; "no memory for potentials");
     };
-    assert_eq!(rt; values.as_slice(), [None, None, Some(0)].as_slice());
-    assert_eq!(rt; bound, None);
+    const VALUES: &[Option<i128>] = &[None, None, Some(0)];
+    assert!(rt; values.as_slice() == VALUES);
+    assert!(rt; bound == None);
 }
 
 #[test]
@@ -109,18 +110,18 @@ fn steps_and_links(rt: HostRuntime) {
         panic!(rt; "no memory for prices");
     };
     let cost = Priced::make(&rules, &Traction, &prices);
-    assert_eq!(rt; cost.steps(), 2);
-    assert_eq!(rt; cost.real(0, 0, 800), Some(6_600_000_000_000 + 25_000_000));
-    assert_eq!(rt; cost.real(0, 0, 0), None);
-    assert_eq!(rt; cost.real(1, 800, 0), Some(25_000_000));
+    assert!(rt; cost.steps() == 2);
+    assert!(rt; cost.real(0, 0, 800) == Some(6_600_000_000_000 + 25_000_000));
+    assert!(rt; cost.real(0, 0, 0) == None);
+    assert!(rt; cost.real(1, 800, 0) == Some(25_000_000));
     let slow = Cell {
         first: 1,
         last: 500,
     };
     let rest = Cell { first: 0, last: 0 };
-    assert_eq!(rt; cost.low(0, rest, slow), Some(200_010_000_000 + 40_000_000));
-    assert_eq!(rt; cost.low(1, slow, rest), Some(40_000_000));
-    assert_eq!(rt; cost.low(0, rest, rest), None);
+    assert!(rt; cost.low(0, rest, slow) == Some(200_010_000_000 + 40_000_000));
+    assert!(rt; cost.low(1, slow, rest) == Some(40_000_000));
+    assert!(rt; cost.low(0, rest, rest) == None);
 }
 
 /// The values of all cells, point by point, after the middle point's only cell is split and the first two steps are renewed; none
@@ -162,18 +163,12 @@ fn renewed_after_a_split(rt: HostRuntime) {
     let Ok(Some(free)) = renewed(alloc, &rules, 0) else {
         panic!(rt; "no memory for potentials");
     };
-    let expected = [Some(200_010_000_000), Some(0), Some(0), Some(0)];
-    assert_eq!(rt; free.as_slice(), expected.as_slice());
+    const FREE: &[Option<i128>] = &[Some(200_010_000_000), Some(0), Some(0), Some(0)];
+    assert!(rt; free.as_slice() == FREE);
     let Ok(Some(priced)) = renewed(alloc, &rules, 62_750_000) else {
         panic!(rt; "no memory for potentials");
     };
-    let expected = [
-        Some(5_220_010_000_000),
-        Some(2_510_000_000_000),
-        Some(1_255_000_000_000),
-        Some(0),
-    ];
-    assert_eq!(rt; priced.as_slice(), expected.as_slice());
+    assert!(rt; priced.as_slice() == PRICED);
 }
 
 /// The best price on three points' cells and their bound at it; none where something doesn't fit.
@@ -206,10 +201,10 @@ fn best_prices(rt: HostRuntime) {
     let Ok(whole) = best(alloc, &rules, &cells) else {
         panic!(rt; "no memory for potentials");
     };
-    assert_eq!(rt; whole, Some((0, Some(200_010_000_000))));
+    assert!(rt; whole == Some((0, Some(200_010_000_000))));
     assert!(rt; cells.split(1, 0).is_ok());
     let Ok(split) = best(alloc, &rules, &cells) else {
         panic!(rt; "no memory for potentials");
     };
-    assert_eq!(rt; split, Some((62_750_000, Some(2_082_510_000_000))));
+    assert!(rt; split == Some((62_750_000, Some(2_082_510_000_000))));
 }

@@ -37,5 +37,5 @@ fn the_best_price_of_one_timing_point(rt: HostRuntime) {
     let Ok(found) = priced(alloc, &rules, &cells) else {
         panic!(rt; "no memory for prices");
     };
-    assert_eq!(rt; found, Some((62_750_000, Some(2_082_510_000_000))));
+    assert!(rt; found == Some((62_750_000, Some(2_082_510_000_000))));
 }

@@ -36,6 +36,6 @@ fn the_wide_cells_of_the_middle(rt: HostRuntime) {
     for place in choice.places.iter() {
         assert!(rt; places.push((place.point, place.cell)).is_ok());
     }
-    assert_eq!(rt; places.as_slice(), [(1, 1), (1, 0)].as_slice());
-    assert_eq!(rt; choice.last, 1);
+    assert!(rt; places.as_slice() == [(1, 1), (1, 0)].as_slice());
+    assert!(rt; choice.last == 1);
 }

@@ -8,13 +8,13 @@ use std::test::Fail;
 fn cells_are_split(rt: HostRuntime) -> Result<(), Fail> {
     let mut cells = Cells::whole(rt.alloc(), [(0, 0), (1, 9), (0, 0)].as_slice())?;
     split_evenly(&mut cells, 7)?;
-    assert_eq!(rt; cells.count(), 6);
-    assert_eq!(rt; cells.points(), 3);
+    assert!(rt; cells.count() == 6);
+    assert!(rt; cells.points() == 3);
     let chosen = [Place { point: 1, cell: 0 }, Place { point: 0, cell: 0 }];
     split_chosen(&mut cells, chosen.as_slice(), 1, 5)?;
-    assert_eq!(rt; cells.count(), 7);
+    assert!(rt; cells.count() == 7);
     split_rest(&mut cells, 100)?;
-    assert_eq!(rt; cells.count(), 11);
+    assert!(rt; cells.count() == 11);
     assert!(rt; cells.all_single());
     Ok(())
 }
