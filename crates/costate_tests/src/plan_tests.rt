@@ -1,42 +1,33 @@
 //! The commands `plan` and `route`.
 
-use crate::runs::run_words;
+use crate::check_tests::{LINE, SERVICE, TRAIN};
+use crate::runs::{Ended, run_words};
+use std::alloc::{AllocError, Global};
 use std::test::Fail;
-
-const LINE: &str = "kind,from,to,value\nlimit,0,200,36\ngradient,0,200,0\n";
-
-const TRAIN: &str =
-    "mass = 1000\ninertia = 1000\na = 1000\nb = 0\nc = 0\ntraction = [[0, 51000], [1000, 51000]]\nbrake = [[0, 100000], [1000, 100000]]\n";
 
 /// The report of the run over these files, to be there in 50 s.
 const PLAN: &str =
     "advice 1\ngap met\nenergy 6600000000000\nkilojoules 3300\nbound 6598955599328\nphase 0 100 part 0 800\nphase 100 200 brake 800 0\ntime 200 50000 50000\ncostate 1\npoints 3\nenergy 6600000000000\nbound 6598955599328\nprices 253652353\nspeeds 0 800 0\ncostates 64000 0\nend\n";
 
+/// What `plan` leaves over these files and this service.
+fn plan_ended(alloc: Global, service: &str) -> Result<Ended, AllocError> {
+    let files = [("l", LINE), ("t", TRAIN), ("s", service)];
+    run_words(alloc, &["plan", "l", "t", "s"], &files)
+}
+
 #[test]
 fn a_plan_is_advice_and_a_certificate(rt: HostRuntime) -> Result<(), Fail> {
-    let alloc = rt.alloc();
-    let files = [
-        ("l", LINE),
-        ("t", TRAIN),
-        ("s", "place,name,dwell,latest\n0,A,,\n200,B,,50\n"),
-    ];
-    let got = run_words(alloc, &["plan", "l", "t", "s"], &files)?;
-    assert_eq!(rt; got.text.as_str(), PLAN);
-    assert_eq!(rt; got.status, 0);
+    let got = plan_ended(rt.alloc(), SERVICE)?;
+    assert!(rt; got.text.as_str() == PLAN);
+    assert!(rt; got.status == 0);
     Ok(())
 }
 
 #[test]
 fn a_service_that_no_drive_keeps_is_late(rt: HostRuntime) -> Result<(), Fail> {
-    let alloc = rt.alloc();
-    let files = [
-        ("l", LINE),
-        ("t", TRAIN),
-        ("s", "place,name,dwell,latest\n0,A,,\n200,B,,39\n"),
-    ];
-    let got = run_words(alloc, &["plan", "l", "t", "s"], &files)?;
-    assert_eq!(rt; got.text.as_str(), "advice 1\nlate 200 40000 39000\n");
-    assert_eq!(rt; got.status, 5);
+    let got = plan_ended(rt.alloc(), "place,name,dwell,latest\n0,A,,\n200,B,,39\n")?;
+    assert!(rt; got.text.as_str() == "advice 1\nlate 200 40000 39000\n");
+    assert!(rt; got.status == 5);
     Ok(())
 }
 
@@ -51,6 +42,6 @@ fn downhill_the_bound_meets_the_energy(rt: HostRuntime) -> Result<(), Fail> {
             .as_str()
             .starts_with("advice 1\ngap met\nenergy 0\nkilojoules 0\nbound 0\n")
     );
-    assert_eq!(rt; got.status, 0);
+    assert!(rt; got.status == 0);
     Ok(())
 }
