@@ -101,6 +101,15 @@ impl<'a> Course<'a> {
         self.rules.steps()
     }
 
+    /// Whether the best costates may jump from step i - 1 to step i: where the train stops between them, or the limit changes.
+    pub(crate) fn may_jump(&self, i: usize) -> bool
+        requires behind { 0 < i }
+        requires step { i < length self.now.rules.steps }
+    {
+        self.known();
+        self.ranges.high(i) == 0 || self.rules.limit(i - 1) != self.rules.limit(i)
+    }
+
     /// A speed of point k that is looked at.
     fn speed(&self, k: usize, g: usize) -> u16
         requires point { k ≤ length self.now.rules.steps }

@@ -3,6 +3,9 @@
 #![tactic(auto)]
 
 mod course;
+mod picks;
+mod ramp_rounds;
 mod search;
+mod step_rounds;
 
 pub use search::search_costates;

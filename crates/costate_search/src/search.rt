@@ -1,167 +1,68 @@
-//! The ascent: each round takes for all steps together the best of three costates, one as it is and two a stride away.
+//! The ascent: rounds of ramps, which carry the costates far, and then rounds of steps, which smooth them.
 ghost use Rattle.std.specs.Prelude.{◌≡◌, ℕ, ◌+◌, ◌^◌, ◌<◌, ◌≤◌, ℤ, length, map, All, IfOk};
 ghost use Rattle.std.specs.Int.RustNames.{unsigned_abs};
 ghost use Rattle.rail_specs.specs.Ranges.{AreRanges, no_narrowing};
 ghost use Rattle.costate_search.specs.Course.{within_range};
 
-use crate::course::{Charges, Course, SPEEDS, least_sum};
+use crate::course::Course;
+use crate::picks::moved;
+use crate::ramp_rounds::{ramp_round, run_ends};
+use crate::step_rounds::step_round;
 use drive_rules::Rules;
 use speed_envelopes::Ranges;
 use std::alloc::{AllocError, Global};
 use time_multipliers::Prices;
 
-/// The greatest size of a costate.
-const MOST: i32 = 1 << 22;
-
 /// The full costate, with which the search begins.
 const FULL: i32 = 64_000;
 
-/// The strides, one after the other.
-const STRIDES: [i32; 13] = [4_096, 2_048, 1_024, 512, 256, 128, 64, 32, 16, 8, 4, 2, 1];
+/// The strides of rounds of ramps, one after the other, and of those of steps.
+const RAMP_STRIDES: [i32; 4] = [4_096, 2_048, 1_024, 512];
 
-/// The most rounds of a stride but for its first: of a wide one, which carries the costates far, and of one that only smooths them.
-const WIDE_ROUNDS: u32 = 64;
+const STEP_STRIDES: [i32; 10] = [512, 256, 128, 64, 32, 16, 8, 4, 2, 1];
 
-const FINE_ROUNDS: u32 = 24;
+/// The most rounds of a stride behind its first, of either kind.
+const RAMP_ROUNDS: u32 = 12;
 
-/// The least stride that is wide.
-const WIDE: i32 = 64;
+const STEP_ROUNDS: u32 = 24;
 
-/// For each of three costates of a step: what the points before the step are charged at best, and which costate of the step before it that
-/// takes.
-#[derive(Clone, Copy)]
-struct Reached {
-    value: [i128; 3],
-    from: [u8; 3],
-}
+/// A run of ramps has this share of the steps, and at least so many.
+const RUNS: usize = 64;
 
-/// The three costates around one.
-fn around(costate: i32, stride: i32) -> [i32; 3] {
-    [
-        costate.saturating_sub(stride).max(-MOST),
-        costate,
-        costate.saturating_add(stride).min(MOST),
-    ]
-}
+const LEAST_RUN: usize = 4;
 
-/// What the points up to that before step i are charged at best, for one of its costates, and from which costate of the step before.
-fn reach(before: &Reached, exits: &[Charges; 3], entries: &Charges) -> (i128, u8) {
-    let low = before.value[0].wrapping_add(least_sum(&exits[0], entries));
-    let mid = before.value[1].wrapping_add(least_sum(&exits[1], entries));
-    let high = before.value[2].wrapping_add(least_sum(&exits[2], entries));
-    if mid >= low && mid >= high {
-        (mid, 1)
-    } else if low >= high {
-        (low, 0)
-    } else {
-        (high, 2)
-    }
-}
-
-/// One of three costates.
-fn chosen(costates: [i32; 3], pick: u8) -> i32 {
-    match pick {
-        0 => costates[0],
-        2 => costates[2],
-        _ => costates[1],
-    }
-}
-
-/// From which costate of the step before one of three is reached.
-fn before(reached: &Reached, pick: u8) -> u8 {
-    match pick {
-        0 => reached.from[0],
-        2 => reached.from[2],
-        _ => reached.from[1],
-    }
-}
-
-/// What a step charges its exit speeds at three costates.
-fn exits_of(course: &Course<'_>, i: usize, near: [i32; 3]) -> [Charges; 3]
-    requires { i < length course.now.rules.steps }
+/// Whether a round brought less than this share of what all points are charged.
+fn is_small(value: i128, best: i128, share: u128) -> bool
+    requires { 0 < share }
 {
-    [
-        course.exits(i, near[0]),
-        course.exits(i, near[1]),
-        course.exits(i, near[2]),
-    ]
+    let gain = value.saturating_sub(best).max(0).unsigned_abs();
+    gain <= value.unsigned_abs() / share
 }
 
-/// What the points up to that before step i are charged at best, for each of its three costates.
-fn reached_at(
-    course: &Course<'_>,
-    i: usize,
-    last: &Reached,
-    exits: &[Charges; 3],
-    near: [i32; 3],
-) -> Reached
-    requires { i < length course.now.rules.steps }
-{
-    let (low, from_low) = reach(last, exits, &course.entries(i, near[0]));
-    let (mid, from_mid) = reach(last, exits, &course.entries(i, near[1]));
-    let (high, from_high) = reach(last, exits, &course.entries(i, near[2]));
-    Reached {
-        value: [low, mid, high],
-        from: [from_low, from_mid, from_high],
-    }
-}
-
-/// What the points before each step are charged at best, for each of its three costates, and the best of the last step's three, with what all
-/// points are charged then.
-fn forward(
+/// Rounds of ramps of one stride, while they gain more than a millionth.
+fn climb_ramps(
     alloc: Global,
     course: &Course<'_>,
-    stride: i32,
-    costates: &[i32],
-) -> Result<(Vec<Reached>, u8, i128), AllocError>
-    requires { length costates.now ≡ length course.now.rules.steps }
-    ensures { IfOk result (λ found. length found.0.items ≡ length costates.now) }
-{
-    let mut all = Vec::new(alloc);
-    let mut exits = [[0i128; SPEEDS]; 3];
-    let mut last = Reached {
-        value: [0; 3],
-        from: [1; 3],
-    };
-    for i in 0..costates.len() {
-        let near = around(costates[i], stride);
-        last = reached_at(course, i, &last, &exits, near);
-        exits = exits_of(course, i, near);
-        all.push(last)?;
-    }
-    let (value, pick) = reach(&last, &exits, &[0i128; SPEEDS]);
-    Ok((all, pick, value))
-}
-
-/// Takes the best costates, from the last step back.
-fn backward(costates: &mut [i32], stride: i32, all: &[Reached], pick: u8)
-    requires { length all.now ≡ length costates.old }
-{
-    let steps = costates.len();
-    let mut pick = pick;
-    for j in 0..steps {
-        let i = steps - 1 - j;
-        costates[i] = chosen(around(costates[i], stride), pick);
-        pick = before(&all[i], pick);
-    }
-}
-
-/// One round: the best of three costates for each step. What all points are charged then.
-fn round(
-    alloc: Global,
-    course: &Course<'_>,
+    ends: &[usize],
     stride: i32,
     costates: &mut [i32],
-) -> Result<i128, AllocError>
-    requires { length costates.old ≡ length course.now.rules.steps }
+) -> Result<(), AllocError>
+    requires costates { length costates.old ≡ length course.now.rules.steps }
+    requires some { 0 < length course.now.rules.steps }
 {
-    let (all, pick, value) = forward(alloc, course, stride, costates)?;
-    backward(costates, stride, all.as_slice(), pick);
-    Ok(value)
+    let mut best = ramp_round(alloc, course, ends, stride, costates)?;
+    for _ in 0..RAMP_ROUNDS {
+        let value = ramp_round(alloc, course, ends, stride, costates)?;
+        if is_small(value, best, 1_000_000) {
+            return Ok(());
+        }
+        best = value;
+    }
+    Ok(())
 }
 
-/// Rounds of one stride, while they gain more than a ten-millionth.
-fn climb(
+/// Rounds of steps of one stride, while they gain more than a ten-millionth.
+fn climb_steps(
     alloc: Global,
     course: &Course<'_>,
     stride: i32,
@@ -169,19 +70,28 @@ fn climb(
 ) -> Result<(), AllocError>
     requires { length costates.old ≡ length course.now.rules.steps }
 {
-    let rounds = if stride < WIDE {
-        FINE_ROUNDS
-    } else {
-        WIDE_ROUNDS
-    };
-    let mut best = round(alloc, course, stride, costates)?;
-    for _ in 0..rounds {
-        let value = round(alloc, course, stride, costates)?;
-        let gain = value.saturating_sub(best).max(0).unsigned_abs();
-        if gain <= value.unsigned_abs() / 10_000_000 {
+    let mut best = step_round(alloc, course, stride, costates)?;
+    for _ in 0..STEP_ROUNDS {
+        let value = step_round(alloc, course, stride, costates)?;
+        if is_small(value, best, 10_000_000) {
             return Ok(());
         }
         best = value;
+    }
+    Ok(())
+}
+
+/// All rounds.
+fn climb(alloc: Global, course: &Course<'_>, costates: &mut [i32]) -> Result<(), AllocError>
+    requires costates { length costates.old ≡ length course.now.rules.steps }
+    requires some { 0 < length course.now.rules.steps }
+{
+    let ends = run_ends(alloc, course, (course.steps() / RUNS).max(LEAST_RUN))?;
+    for stride in RAMP_STRIDES {
+        climb_ramps(alloc, course, ends.as_slice(), stride, costates)?;
+    }
+    for stride in STEP_STRIDES {
+        climb_steps(alloc, course, stride, costates)?;
     }
     Ok(())
 }
@@ -224,13 +134,6 @@ fn full(alloc: Global, steps: usize) -> Result<Vec<i32>, AllocError>
     Ok(costates)
 }
 
-/// A costate, moved into its range.
-fn moved(costate: i32) -> i32
-    ensures { result ≡ within_range costate }
-{
-    (-MOST).max(MOST.min(costate))
-}
-
 /// Costates, each moved into its range.
 fn within_range(alloc: Global, costates: &[i32]) -> Result<Vec<i32>, AllocError>
     ensures value { IfOk result (λ kept. kept.items ≡ map within_range costates.now) }
@@ -269,8 +172,6 @@ pub fn search_costates(
     let slopes = slopes(alloc, rules, prices, speeds)?;
     let mut costates = full(alloc, rules.steps())?;
     let course = Course::make(rules, share, speeds, ranges, slopes.as_slice());
-    for stride in STRIDES {
-        climb(alloc, &course, stride, costates.as_mut_slice())?;
-    }
+    climb(alloc, &course, costates.as_mut_slice())?;
     kept_in_range(alloc, costates.as_slice())
 }

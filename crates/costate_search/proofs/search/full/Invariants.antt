@@ -1,4 +1,4 @@
-use Rattle.std.proofs.Common.{◌≡◌, length, map, take}
+use Rattle.std.proofs.Common.{◌≡◌, length}
 use Rattle.costate_search.proofs.search.full.Given as goal
 
 abbrev pub invariant-loop-i : goal.invariant-loop-i

@@ -1,4 +1,4 @@
-use Rattle.std.proofs.Common.{◌≡◌, length, map, take}
+use Rattle.std.proofs.Common.{◌≡◌, map, take}
 use Rattle.costate_search.specs.Course.{within_range}
 use Rattle.costate_search.proofs.search.within_range.Given as goal
 
