@@ -6,7 +6,7 @@ use Rattle.line_file.specs.declared.calls.Call.{Call}
 use Rattle.line_file.specs.declared.line.Line.{Line}
 use Rattle.line_file.specs.Shape.{call_at}
 use Rattle.joined_rules.specs.Joined.{ForNone, HasStop, IsOutside, IsPointOf, IsTooClose, dwell_of, is_stop_call}
-use Rattle.advice_session.specs.Data.{with_latest_time}
+use Rattle.rule_changes.specs.Latest.{with_latest_call}
 
 -- the same calls but for their latest times
 pub record Alike (a b : List Call) : Type 0 where
@@ -15,21 +15,21 @@ pub record Alike (a b : List Call) : Type 0 where
   pub dwell : (i : ℕ) → (call_at b i).dwell ≡ (call_at a i).dwell
 
 -- the call of the index itself, and each other one
-pub set_there : (calls : List Call) (j seconds : ℕ) → j < length calls → call_at (with_latest_time calls j seconds) j ≡ record (call_at calls j) { latest = Some seconds }
+pub set_there : (calls : List Call) (j seconds : ℕ) → j < length calls → call_at (with_latest_call calls j seconds) j ≡ record (call_at calls j) { latest = Some seconds }
 set_there calls j seconds l = rw get_or-set_same refl
 
-pub set_other : (calls : List Call) (j seconds i : ℕ) → i ≢ j → call_at (with_latest_time calls j seconds) i ≡ call_at calls i
+pub set_other : (calls : List Call) (j seconds i : ℕ) → i ≢ j → call_at (with_latest_call calls j seconds) i ≡ call_at calls i
 set_other calls j seconds i ne = rw get_or-set_other refl
 
-pub alike : (calls : List Call) (j seconds : ℕ) → j < length calls → Alike calls (with_latest_time calls j seconds)
+pub alike : (calls : List Call) (j seconds : ℕ) → j < length calls → Alike calls (with_latest_call calls j seconds)
 alike calls j seconds l = record {
   count = length-set calls j _;
   place = λ i. elim (cases_eq i j) [
-    | inl e ↦ subst (λ (k : ℕ). (call_at (with_latest_time calls j seconds) k).place ≡ (call_at calls k).place) (sym e) (ap (λ (c : Call). c.place) (set_there calls j seconds l))
+    | inl e ↦ subst (λ (k : ℕ). (call_at (with_latest_call calls j seconds) k).place ≡ (call_at calls k).place) (sym e) (ap (λ (c : Call). c.place) (set_there calls j seconds l))
     | inr ne ↦ ap (λ (c : Call). c.place) (set_other calls j seconds i ne)
   ];
   dwell = λ i. elim (cases_eq i j) [
-    | inl e ↦ subst (λ (k : ℕ). (call_at (with_latest_time calls j seconds) k).dwell ≡ (call_at calls k).dwell) (sym e) (ap (λ (c : Call). c.dwell) (set_there calls j seconds l))
+    | inl e ↦ subst (λ (k : ℕ). (call_at (with_latest_call calls j seconds) k).dwell ≡ (call_at calls k).dwell) (sym e) (ap (λ (c : Call). c.dwell) (set_there calls j seconds l))
     | inr ne ↦ ap (λ (c : Call). c.dwell) (set_other calls j seconds i ne)
   ];
 }

@@ -24,8 +24,8 @@ use Rattle.advice_session.proofs.PlaceLaws.{behind_at}
 use Rattle.advice_session.proofs.TimingLaws.{one_more as one_more_timing, none_more}
 use Rattle.std.proofs.lemmas.List.Quantifiers.{position-Some}
 use Rattle.joined_rules.proofs.JoinedStops.{one_call}
-use Rattle.rule_changes.specs.Latest.{IsLatestSet, with_latest, with_latest_at}
-use Rattle.advice_session.specs.Data.{Data, IsSession, State, state_of, with_latest_time}
+use Rattle.rule_changes.specs.Latest.{IsLatestSet, with_latest, with_latest_at, with_latest_call}
+use Rattle.advice_session.specs.Data.{Data, IsSession, State, state_of}
 use Rattle.advice_session.specs.Faults.{call_at_place, call_behind, is_too_many, point_behind}
 use Rattle.advice_session.proofs.CallLaws.{alike, same_apart, same_on_line, same_places, same_point, set_other, set_there}
 
@@ -119,9 +119,9 @@ same_index places rising a b l m e = elim (cases_lt a b) [
 pub timings_set : (calls : List Call) (start clock j seconds p : ℕ) (places : List ℕ) (ts new : List Timing) (latest : ℤ) → CallsRise calls → Rising places →
     j < length calls → start < (call_at calls j).place → p < length places → get_or places p 0 ≡ (call_at calls j).place → latest ≡ pos (1000 * seconds) -ℤ pos (1000 * clock) →
     AreTimings calls start clock places ts → ((h : ℕ) → h < length ts → (get_or ts h no_timing).point < length places) → IsLatestSet ts p latest new →
-    AreTimings (with_latest_time calls j seconds) start clock places new
+    AreTimings (with_latest_call calls j seconds) start clock places new
 timings_set calls start clock j seconds p places ts new latest rise rising there after within place value t all s =
-    let b : List Call = with_latest_time calls j seconds in
+    let b : List Call = with_latest_call calls j seconds in
     let a = alike calls j seconds there in
     let there_b : j < length b = omega (arith, there, a.count) in
     record {
@@ -152,7 +152,7 @@ timings_set calls start clock j seconds p places ts new latest rise rising there
 -- ---- the service and the session
 
 count_set : (calls : List Call) (j seconds : ℕ) → 1 ≤ j → j < length calls →
-    latest_count (with_latest_time calls j seconds) + cond (is_some (call_at calls j).latest) 1 0 ≡ latest_count calls + 1
+    latest_count (with_latest_call calls j seconds) + cond (is_some (call_at calls j).latest) 1 0 ≡ latest_count calls + 1
 count_set [] j seconds some l = absurd (omega (arith, l))
 count_set (c ∷ cs) zero seconds some l = absurd (omega (arith, some))
 count_set (c ∷ cs) (suc i) seconds some l =
@@ -165,17 +165,17 @@ room : (o : Option ℕ) (n m : ℕ) → (is_none o && nat_le 64 n) ≡ false →
 room None n m h e l = omega (arith, not_most 64 n h, e)
 room (Some s) n m h e l = omega (arith, e, l)
 
-some_set : (calls : List Call) (j seconds k : ℕ) → j < length calls → IsSome (call_at calls k).latest → IsSome (call_at (with_latest_time calls j seconds) k).latest
+some_set : (calls : List Call) (j seconds k : ℕ) → j < length calls → IsSome (call_at calls k).latest → IsSome (call_at (with_latest_call calls j seconds) k).latest
 some_set calls j seconds k there h = elim (cases_eq k j) [
-  | inl e ↦ subst (λ (n : ℕ). IsSome (call_at (with_latest_time calls j seconds) n).latest) (sym e) (subst (λ (c : Call). IsSome c.latest) (sym (set_there calls j seconds there)) refl)
+  | inl e ↦ subst (λ (n : ℕ). IsSome (call_at (with_latest_call calls j seconds) n).latest) (sym e) (subst (λ (c : Call). IsSome c.latest) (sym (set_there calls j seconds there)) refl)
   | inr ne ↦ subst (λ (c : Call). IsSome c.latest) (sym (set_other calls j seconds k ne)) h
 ]
 
 pub service_set : (service : Service) (j seconds : ℕ) → IsService service → 1 ≤ j → j < length service.calls → seconds ≤ 172800 → is_too_many service.calls j ≡ false →
-    IsService (record { calls = with_latest_time service.calls j seconds })
+    IsService (record { calls = with_latest_call service.calls j seconds })
 service_set service j seconds h some there small free =
     let calls : List Call = service.calls in
-    let b : List Call = with_latest_time calls j seconds in
+    let b : List Call = with_latest_call calls j seconds in
     let a = alike calls j seconds there in
     let own = h.calls.each j there in
     record {
@@ -197,10 +197,10 @@ pub timed_session : (line : Line) (train : Train) (service : Service) (step plac
     j < length service.calls → place < (call_at service.calls j).place → seconds ≤ 172800 → is_too_many service.calls j ≡ false →
     p < length r.places → get_or r.places p 0 ≡ (call_at service.calls j).place → latest ≡ pos (1000 * seconds) -ℤ pos (1000 * clock) →
     new ≡ with_latest_at r p latest → IsLatestSet r.timings p latest new.timings →
-    IsSession (state_of line train (record { calls = with_latest_time service.calls j seconds }) step place speed clock names stretches new)
+    IsSession (state_of line train (record { calls = with_latest_call service.calls j seconds }) step place speed clock names stretches new)
 timed_session line train service step place speed clock names stretches r new j seconds p latest h shaped there after small free within stands value is set =
     let calls : List Call = service.calls in
-    let b : List Call = with_latest_time calls j seconds in
+    let b : List Call = with_latest_call calls j seconds in
     let a = alike calls j seconds there in
     let some : 1 ≤ j = elim (cases_lt 0 j) [ inl c ↦ omega (arith, c) | inr g ↦ (let e : j ≡ 0 = omega (arith, g) in absurd (omega (arith, after, h.setup.place.0, ap (λ (k : ℕ). (call_at calls k).place) e))) ] in
     let joined = h.rules.joined in

@@ -1,16 +1,16 @@
 -- The data of a session: what its events change, and what always holds of it and of the rules that are kept with it.
-use Rattle.std.specs.Prelude.{ℕ, ◌≡◌, ◌≤◌, ◌++◌, List, [], ◌∷◌, Option, Some, None, length, slice_set}
+use Rattle.std.specs.Prelude.{ℕ, ◌≡◌, ◌≤◌, ◌++◌, List, [], ◌∷◌, Option, Some, None, length}
 use Rattle.std.specs.List.{remove}
 use Rattle.rail_specs.specs.Rules.{Rules}
 use Rattle.line_file.specs.declared.line.Line.{Line}
-use Rattle.line_file.specs.declared.calls.Call.{Call}
 use Rattle.line_file.specs.declared.service.Service.{Service}
-use Rattle.line_file.specs.Shape.{IsLine, IsService, call_at}
+use Rattle.line_file.specs.Shape.{IsLine, IsService}
 use Rattle.train_file.specs.declared.train.Train.{Train}
 use Rattle.train_file.specs.Shape.{IsTrain}
 use Rattle.joined_rules.specs.declared.setup.Stretch.{Stretch}
 use Rattle.joined_rules.specs.declared.setup.Setup.{Setup}
 use Rattle.joined_rules.specs.Joined.{IsSetup, Joins, first_place}
+use Rattle.rule_changes.specs.Latest.{with_latest_in}
 
 -- the data of a session
 pub record Data : Type 0 where
@@ -85,13 +85,9 @@ abbrev pub lifted_at : Data → Option ℕ → Data
 lifted_at d None = d
 lifted_at d (Some i) = lifted d i
 
--- calls of which one has another latest time
-abbrev pub with_latest_time : List Call → ℕ → ℕ → List Call
-with_latest_time calls j seconds = slice_set calls j (record (call_at calls j) { latest = Some seconds })
-
 -- the call of an index has another latest time
 abbrev pub timed : Data → ℕ → ℕ → Data
-timed d j seconds = record d { service = record { calls = with_latest_time d.service.calls j seconds } }
+timed d j seconds = record d { service = with_latest_in d.service j seconds }
 
 -- the call of an index, where there is one, has another latest time
 abbrev pub timed_at : Data → Option ℕ → ℕ → Data

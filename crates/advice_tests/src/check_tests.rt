@@ -45,8 +45,8 @@ fn a_report_carries_its_certificate(rt: HostRuntime) -> Result<(), Fail> {
         "",
         &["plan", "l", "t", "s", "--splits", "0"],
     )?;
-    assert_eq!(rt; got.status, 1);
-    assert_eq!(rt; got.text.as_str(), REPORT);
+    assert!(rt; got.status == 1);
+    assert!(rt; got.text.as_str() == REPORT);
     Ok(())
 }
 
@@ -62,7 +62,7 @@ fn what_a_plan_prints_is_certified(rt: HostRuntime) -> Result<(), Fail> {
             planned.text.as_str(),
             &["check", "l", "t", "s", "r"],
         )?;
-        assert_eq!(rt; got.status, 0);
+        assert!(rt; got.status == 0);
         assert!(rt; got.text.as_str().starts_with("certified energy "));
     }
     Ok(())
@@ -71,7 +71,7 @@ fn what_a_plan_prints_is_certified(rt: HostRuntime) -> Result<(), Fail> {
 #[test]
 fn certificates_are_refused_by_what_fails_first(rt: HostRuntime) -> Result<(), Fail> {
     let alloc = rt.alloc();
-    let cases: [(&str, &str, u8, &str); 7] = [
+    const CASES: &[(&str, &str, u8, &str)] = &[
         (
             "",
             "",
@@ -105,7 +105,7 @@ fn certificates_are_refused_by_what_fails_first(rt: HostRuntime) -> Result<(), F
             "refused certificate form 1\n",
         ),
     ];
-    for (old, new, status, text) in cases {
+    for &(old, new, status, text) in CASES {
         let report = REPORT.replace(alloc, old, new)?;
         let got = ended(
             alloc,
@@ -114,8 +114,8 @@ fn certificates_are_refused_by_what_fails_first(rt: HostRuntime) -> Result<(), F
             report.as_str(),
             &["check", "l", "t", "s", "r"],
         )?;
-        assert_eq!(rt; got.status, status, "{new}");
-        assert_eq!(rt; got.text.as_str(), text, "{new}");
+        assert!(rt; got.status == status, "{new}");
+        assert!(rt; got.text.as_str() == text, "{new}");
     }
     Ok(())
 }
@@ -133,8 +133,8 @@ fn of_two_certificates_the_first_is_checked(rt: HostRuntime) -> Result<(), Fail>
         both.as_str(),
         &["check", "l", "t", "s", "r"],
     )?;
-    assert_eq!(rt; got.status, 9);
-    assert_eq!(rt; got.text.as_str(), "refused certificate form 10\n");
+    assert!(rt; got.status == 9);
+    assert!(rt; got.text.as_str() == "refused certificate form 10\n");
     let behind = format!(in alloc; "any words\n{REPORT}")?;
     let found = ended(
         alloc,
@@ -143,14 +143,14 @@ fn of_two_certificates_the_first_is_checked(rt: HostRuntime) -> Result<(), Fail>
         behind.as_str(),
         &["check", "l", "t", "s", "r"],
     )?;
-    assert_eq!(rt; found.status, 0);
+    assert!(rt; found.status == 0);
     Ok(())
 }
 
 #[test]
 fn what_ends_a_check_before_the_certificate(rt: HostRuntime) -> Result<(), Fail> {
     let alloc = rt.alloc();
-    let cases: [(&str, &[&str], u8, &str); 3] = [
+    const CASES: &[(&str, &[&str], u8, &str)] = &[
         (
             SERVICE,
             &["check", "l", "t", "s", "absent"],
@@ -170,10 +170,10 @@ fn what_ends_a_check_before_the_certificate(rt: HostRuntime) -> Result<(), Fail>
             "refused service bad-header\n",
         ),
     ];
-    for (service, words, status, text) in cases {
+    for &(service, words, status, text) in CASES {
         let got = ended(alloc, TRAIN, service, "no report", words)?;
-        assert_eq!(rt; got.status, status, "{text}");
-        assert_eq!(rt; got.text.as_str(), text);
+        assert!(rt; got.status == status, "{text}");
+        assert!(rt; got.text.as_str() == text);
     }
     for words in [
         ["check", "l", "t", "s"].as_slice(),
@@ -181,7 +181,7 @@ fn what_ends_a_check_before_the_certificate(rt: HostRuntime) -> Result<(), Fail>
         ["check", "l", "t", "s", "r", "--step", "9"].as_slice(),
     ] {
         let got = ended(alloc, TRAIN, SERVICE, REPORT, words)?;
-        assert_eq!(rt; got.status, 2);
+        assert!(rt; got.status == 2);
     }
     Ok(())
 }
@@ -196,10 +196,10 @@ fn a_train_regains_energy(rt: HostRuntime) -> Result<(), Fail> {
         "",
         &["plan", "l", "t", "s", "--splits", "0"],
     )?;
-    assert_eq!(rt; got.status, 1);
-    assert_eq!(rt;
-        advice_part(got.text.as_str()),
-        "advice 1\ngap open\nenergy 3500000000000\nkilojoules 1750\nregeneration 500\ntraction 6600000000000\nbound -4699990000000\ncells 3\nsplits 0\nphase 0 100 part 0 800\nphase 100 200 brake 800 0\ntime 200 50000 50000\n"
+    assert!(rt; got.status == 1);
+    assert!(rt;
+        advice_part(got.text.as_str())
+            == "advice 1\ngap open\nenergy 3500000000000\nkilojoules 1750\nregeneration 500\ntraction 6600000000000\nbound -4699990000000\ncells 3\nsplits 0\nphase 0 100 part 0 800\nphase 100 200 brake 800 0\ntime 200 50000 50000\n"
     );
     // A train that gives nothing back has another energy.
     let other = ended(
@@ -209,8 +209,8 @@ fn a_train_regains_energy(rt: HostRuntime) -> Result<(), Fail> {
         REPORT,
         &["check", "l", "t", "s", "r"],
     )?;
-    assert_eq!(rt; other.status, 9);
-    assert_eq!(rt; other.text.as_str(), "refused certificate number energy\n");
+    assert!(rt; other.status == 9);
+    assert!(rt; other.text.as_str() == "refused certificate number energy\n");
     Ok(())
 }
 
@@ -235,7 +235,7 @@ fn an_energy_below_zero(rt: HostRuntime) -> Result<(), Fail> {
         b"place,name,dwell,latest\n0,A,,\n200,B,,70\n",
     )?;
     let got = run_words(alloc, &["plan", "l", "t", "s"], setting)?;
-    assert_eq!(rt; got.status, 0);
+    assert!(rt; got.status == 0);
     assert!(rt;
         got.text.as_str().starts_with(
             "advice 1\ngap met\nenergy -7448000000000\nkilojoules -3724\nregeneration 1000\ntraction 6276000000000\nbound -7"
@@ -247,12 +247,12 @@ fn an_energy_below_zero(rt: HostRuntime) -> Result<(), Fail> {
 #[test]
 fn versions_of_train_files(rt: HostRuntime) -> Result<(), Fail> {
     let alloc = rt.alloc();
-    let cases: [(&str, u8, &str); 3] = [
+    const CASES: &[(&str, u8, &str)] = &[
         ("version = 3\n", 3, "refused train out-of-range version\n"),
         ("version = 2\n", 3, "refused train missing regeneration\n"),
         ("version = 1\nregeneration = \"x\"\n", 1, REPORT),
     ];
-    for (front, status, text) in cases {
+    for &(front, status, text) in CASES {
         let train = format!(in alloc; "{front}{TRAIN}")?;
         let got = ended(
             alloc,
@@ -261,8 +261,8 @@ fn versions_of_train_files(rt: HostRuntime) -> Result<(), Fail> {
             "",
             &["plan", "l", "t", "s", "--splits", "0"],
         )?;
-        assert_eq!(rt; got.status, status, "{front}");
-        assert_eq!(rt; got.text.as_str(), text, "{front}");
+        assert!(rt; got.status == status, "{front}");
+        assert!(rt; got.text.as_str() == text, "{front}");
     }
     Ok(())
 }

@@ -39,8 +39,8 @@ fn plan_ended<'a>(
 #[test]
 fn files_are_joined_and_planned(rt: HostRuntime) -> Result<(), Fail> {
     let alloc = rt.alloc();
-    let long = "kind,from,to,value\nlimit,0,400,36\ngradient,0,400,0\n";
-    let cases: [(&str, &str, u8, &str); 4] = [
+    const LONG: &str = "kind,from,to,value\nlimit,0,400,36\ngradient,0,400,0\n";
+    const CASES: &[(&str, &str, u8, &str)] = &[
         (
             LINE,
             SERVICE,
@@ -48,13 +48,13 @@ fn files_are_joined_and_planned(rt: HostRuntime) -> Result<(), Fail> {
             "advice 1\ngap met\nenergy 6600000000000\nkilojoules 3300\nbound 6599679787200\ncells 1002\nsplits 999\nphase 0 100 part 0 800\nphase 100 200 brake 800 0\ntime 200 50000 50000\n",
         ),
         (
-            long,
+            LONG,
             "place,name,dwell,latest\n0,A,,\n200,B,30,\n400,C,,110\n",
             0,
             "advice 1\ngap met\nenergy 20400000000000\nkilojoules 10200\nbound 20320080000000\ncells 515\nsplits 510\nphase 0 100 power 0 1000\nphase 100 200 brake 1000 0\nphase 200 300 power 0 1000\nphase 300 400 brake 1000 0\ntime 400 110000 110000\n",
         ),
         (
-            long,
+            LONG,
             "place,name,dwell,latest\n0,A,,\n200,B,30,\n400,C,,109\n",
             5,
             "advice 1\nlate 400 110000 109000\n",
@@ -66,10 +66,10 @@ fn files_are_joined_and_planned(rt: HostRuntime) -> Result<(), Fail> {
             "advice 1\ngap met\nenergy 10200000000000\nkilojoules 5100\nbound 10200000000000\ncells 1002\nsplits 999\nphase 0 100 power 0 1000\nphase 100 200 brake 1000 0\ntime 100 20000 20000\ntime 200 40000 200000\n",
         ),
     ];
-    for (line, service, status, text) in cases {
+    for &(line, service, status, text) in CASES {
         let got = plan_ended(alloc, line, TRAIN, service, &[])?;
-        assert_eq!(rt; got.status, status, "{service}");
-        assert_eq!(rt; advice_part(got.text.as_str()), text, "{service}");
+        assert!(rt; got.status == status, "{service}");
+        assert!(rt; advice_part(got.text.as_str()) == text, "{service}");
     }
     Ok(())
 }
@@ -78,25 +78,25 @@ fn files_are_joined_and_planned(rt: HostRuntime) -> Result<(), Fail> {
 fn a_limit_holds_until_the_tail_is_out(rt: HostRuntime) -> Result<(), Fail> {
     let alloc = rt.alloc();
     let line = "kind,from,to,value\nlimit,0,100,18\nlimit,100,300,36\ngradient,0,300,0\n";
-    let long_train =
+    const LONG_TRAIN: &str =
         "length = 100\nmass = 1000\ninertia = 1000\na = 1000\nb = 0\nc = 0\ntraction = [[0, 51000], [1000, 51000]]\nbrake = [[0, 100000], [1000, 100000]]\n";
     // The short train runs at 500 and then 1000 cm/s, the long one at 500 cm/s all the way.
-    let cases: [(&str, &str, &str); 2] = [
+    const CASES: &[(&str, &str, &str)] = &[
         (
             TRAIN,
             "place,name,dwell,latest\n0,A,,\n300,B,,73\n",
             "advice 1\nlate 300 73334 73000\n",
         ),
         (
-            long_train,
+            LONG_TRAIN,
             "place,name,dwell,latest\n0,A,,\n300,B,,99\n",
             "advice 1\nlate 300 100000 99000\n",
         ),
     ];
-    for (train, service, text) in cases {
+    for &(train, service, text) in CASES {
         let got = plan_ended(alloc, line, train, service, &[])?;
-        assert_eq!(rt; got.status, 5, "{service}");
-        assert_eq!(rt; got.text.as_str(), text, "{service}");
+        assert!(rt; got.status == 5, "{service}");
+        assert!(rt; got.text.as_str() == text, "{service}");
     }
     Ok(())
 }
@@ -104,7 +104,7 @@ fn a_limit_holds_until_the_tail_is_out(rt: HostRuntime) -> Result<(), Fail> {
 #[test]
 fn line_files_are_refused_by_their_role(rt: HostRuntime) -> Result<(), Fail> {
     let alloc = rt.alloc();
-    let cases: [(&str, &str); 3] = [
+    const CASES: &[(&str, &str)] = &[
         ("", "refused line bad-header\n"),
         ("kind,from,to,value\n", "refused line no-sections\n"),
         (
@@ -112,10 +112,10 @@ fn line_files_are_refused_by_their_role(rt: HostRuntime) -> Result<(), Fail> {
             "refused line gap 2\n",
         ),
     ];
-    for (line, text) in cases {
+    for &(line, text) in CASES {
         let got = plan_ended(alloc, line, TRAIN, SERVICE, &[])?;
-        assert_eq!(rt; got.status, 3, "{line}");
-        assert_eq!(rt; got.text.as_str(), text, "{line}");
+        assert!(rt; got.status == 3, "{line}");
+        assert!(rt; got.text.as_str() == text, "{line}");
     }
     Ok(())
 }
@@ -123,7 +123,7 @@ fn line_files_are_refused_by_their_role(rt: HostRuntime) -> Result<(), Fail> {
 #[test]
 fn train_files_are_refused_by_their_role(rt: HostRuntime) -> Result<(), Fail> {
     let alloc = rt.alloc();
-    let cases: [(&str, &str); 3] = [
+    const CASES: &[(&str, &str)] = &[
         (
             "version = 2\nregeneration = 500\nlength = 1001\nmass = 1000\ninertia = 1000\na = 1000\nb = 0\nc = 0\n",
             "refused train out-of-range length\n",
@@ -134,10 +134,10 @@ fn train_files_are_refused_by_their_role(rt: HostRuntime) -> Result<(), Fail> {
         ),
         ("mass = 1.5\n", "refused train wrong-kind mass\n"),
     ];
-    for (train, text) in cases {
+    for &(train, text) in CASES {
         let got = plan_ended(alloc, LINE, train, SERVICE, &[])?;
-        assert_eq!(rt; got.status, 3, "{train}");
-        assert_eq!(rt; got.text.as_str(), text, "{train}");
+        assert!(rt; got.status == 3, "{train}");
+        assert!(rt; got.text.as_str() == text, "{train}");
     }
     Ok(())
 }
@@ -145,7 +145,7 @@ fn train_files_are_refused_by_their_role(rt: HostRuntime) -> Result<(), Fail> {
 #[test]
 fn service_files_are_refused_by_their_role_or_the_rules(rt: HostRuntime) -> Result<(), Fail> {
     let alloc = rt.alloc();
-    let cases: [(&str, &str); 3] = [
+    const CASES: &[(&str, &str)] = &[
         (
             "place,name,dwell,latest\n0,A,,\n200,B,,\n",
             "refused service no-final-latest\n",
@@ -159,10 +159,10 @@ fn service_files_are_refused_by_their_role_or_the_rules(rt: HostRuntime) -> Resu
             "refused rules outside 2\n",
         ),
     ];
-    for (service, text) in cases {
+    for &(service, text) in CASES {
         let got = plan_ended(alloc, LINE, TRAIN, service, &[])?;
-        assert_eq!(rt; got.status, 3, "{service}");
-        assert_eq!(rt; got.text.as_str(), text, "{service}");
+        assert!(rt; got.status == 3, "{service}");
+        assert!(rt; got.text.as_str() == text, "{service}");
     }
     Ok(())
 }
@@ -171,19 +171,19 @@ fn service_files_are_refused_by_their_role_or_the_rules(rt: HostRuntime) -> Resu
 fn files_are_read_in_the_order_of_the_words(rt: HostRuntime) -> Result<(), Fail> {
     let alloc = rt.alloc();
     let absent = run_words(alloc, &["plan", "absent.csv", "t", "s"], plain(alloc))?;
-    assert_eq!(rt; absent.status, 6);
-    assert_eq!(rt; absent.text.as_str(), "read fault line\n");
+    assert!(rt; absent.status == 6);
+    assert!(rt; absent.text.as_str() == "read fault line\n");
     let mut half = plain(alloc);
     put_file(alloc, &mut half.files, "l", LINE.as_bytes())?;
     let no_train = run_words(alloc, &["plan", "l", "t", "s"], half)?;
-    assert_eq!(rt; no_train.text.as_str(), "read fault train\n");
+    assert!(rt; no_train.text.as_str() == "read fault train\n");
     for words in [
         ["plan", "a", "b"].as_slice(),
         ["plan", "a", "b", "c", "--step", "9"].as_slice(),
     ] {
         let got = run_words(alloc, words, plain(alloc))?;
-        assert_eq!(rt; got.status, 2);
-        assert_eq!(rt; got.text.as_str(), USAGE);
+        assert!(rt; got.status == 2);
+        assert!(rt; got.text.as_str() == USAGE);
     }
     let wide = plan_ended(
         alloc,
@@ -192,7 +192,7 @@ fn files_are_read_in_the_order_of_the_words(rt: HostRuntime) -> Result<(), Fail>
         SERVICE,
         &["--step=1000", "--tolerance=1000"],
     )?;
-    assert_eq!(rt; wide.text.as_str(), "refused rules stops-too-close 2\n");
+    assert!(rt; wide.text.as_str() == "refused rules stops-too-close 2\n");
     Ok(())
 }
 
@@ -207,7 +207,7 @@ fn forty_kilometres_are_planned(rt: HostRuntime) -> Result<(), Fail> {
     let service =
         "place,name,dwell,latest\r\n0,\"Alder\",,\r\n12000,\"Birch\",60,\r\n27000,\"Cedar Halt\",60,\r\n40000,\"Dale\",,2400\r\n";
     let got = plan_ended(alloc, line, train, service, &["--step", "200"])?;
-    assert_eq!(rt; got.status, 1);
+    assert!(rt; got.status == 1);
     assert!(rt; got.text.as_str().starts_with("advice 1\ngap open\nenergy "));
     let (mut points, mut stands) = (0u32, 0u32);
     for line in got.text.as_str().split('\n') {
@@ -218,8 +218,8 @@ fn forty_kilometres_are_planned(rt: HostRuntime) -> Result<(), Fail> {
             stands = stands.saturating_add(1);
         }
     }
-    assert_eq!(rt; points, 201, "points");
-    assert_eq!(rt; stands, 4, "calls");
+    assert!(rt; points == 201, "points");
+    assert!(rt; stands == 4, "calls");
     Ok(())
 }
 
@@ -230,7 +230,7 @@ fn rules_of_too_many_steps_are_refused(rt: HostRuntime) -> Result<(), Fail> {
     let line = "kind,from,to,value\nlimit,0,40010,36\ngradient,0,40010,0\n";
     let service = "place,name,dwell,latest\n0,A,,\n40010,B,,9000\n";
     let got = plan_ended(alloc, line, TRAIN, service, &["--step", "10"])?;
-    assert_eq!(rt; got.status, 3);
-    assert_eq!(rt; got.text.as_str(), "refused rules too-many-steps\n");
+    assert!(rt; got.status == 3);
+    assert!(rt; got.text.as_str() == "refused rules too-many-steps\n");
     Ok(())
 }

@@ -38,7 +38,7 @@ fn route_ended(alloc: Global, text: &[u8]) -> Result<Ended, AllocError> {
 #[test]
 fn routes_are_answered(rt: HostRuntime) -> Result<(), Fail> {
     let alloc = rt.alloc();
-    let cases: [(u32, u32, &[&str], u8, &str); 7] = [
+    const CASES: &[(u32, u32, &[&str], u8, &str)] = &[
         (
             51_000,
             50,
@@ -83,11 +83,11 @@ fn routes_are_answered(rt: HostRuntime) -> Result<(), Fail> {
         ),
         (51_000, 50, &[LEVEL], 3, "refused route range 8\n"),
     ];
-    for (traction, latest, steps, status, text) in cases {
+    for &(traction, latest, steps, status, text) in CASES {
         let route = route_of(alloc, traction, latest, steps)?;
         let got = route_ended(alloc, route.as_bytes())?;
-        assert_eq!(rt; got.status, status, "{route}");
-        assert_eq!(rt; advice_part(got.text.as_str()), text, "{route}");
+        assert!(rt; got.status == status, "{route}");
+        assert!(rt; advice_part(got.text.as_str()) == text, "{route}");
     }
     Ok(())
 }
@@ -136,8 +136,8 @@ fn part_traction_and_begun_kilojoules_are_told(rt: HostRuntime) -> Result<(), Fa
         let (steps, status, text) = phased(case);
         let route = route_of(alloc, 51_000, 60, steps)?;
         let got = route_ended(alloc, route.as_bytes())?;
-        assert_eq!(rt; got.status, status);
-        assert_eq!(rt; advice_part(got.text.as_str()), text);
+        assert!(rt; got.status == status);
+        assert!(rt; advice_part(got.text.as_str()) == text);
     }
     Ok(())
 }
@@ -149,8 +149,8 @@ fn routes_of_too_many_steps_are_refused(rt: HostRuntime) -> Result<(), Fail> {
     let steps = vec![in alloc; LEVEL; 4_001]?;
     let route = route_of(alloc, 51_000, 50, steps.as_slice())?;
     let got = route_ended(alloc, route.as_bytes())?;
-    assert_eq!(rt; got.status, 3);
-    assert_eq!(rt; got.text.as_str(), "refused route too-many-steps\n");
+    assert!(rt; got.status == 3);
+    assert!(rt; got.text.as_str() == "refused route too-many-steps\n");
     Ok(())
 }
 
@@ -163,18 +163,15 @@ fn a_fault_of_an_earlier_run_is_not_told_again(rt: HostRuntime) -> Result<(), Fa
     put_file(alloc, &mut failing.files, "a.route", route.as_bytes())?;
     failing.failing_fetches.push(1)?;
     let got = run_words_twice(alloc, &["route", "a.route"], failing)?;
-    assert_eq!(rt; got.status, 5);
-    assert_eq!(rt;
-        got.text.as_str(),
-        "read fault route\nadvice 1\nlate 200 40000 39000\n"
-    );
+    assert!(rt; got.status == 5);
+    assert!(rt; got.text.as_str() == "read fault route\nadvice 1\nlate 200 40000 39000\n");
     Ok(())
 }
 
 #[test]
 fn files_that_are_no_routes_are_refused(rt: HostRuntime) -> Result<(), Fail> {
     let alloc = rt.alloc();
-    let cases: [(&[u8], &str); 4] = [
+    const CASES: &[(&[u8], &str)] = &[
         (b"", "refused route form 1\n"),
         (b"route 2\n", "refused route form 1\n"),
         (b"\x00\xff\xfe\n\n", "refused route form 1\n"),
@@ -183,25 +180,25 @@ fn files_that_are_no_routes_are_refused(rt: HostRuntime) -> Result<(), Fail> {
             "refused route range 2\n",
         ),
     ];
-    for (bytes, text) in cases {
+    for &(bytes, text) in CASES {
         let got = route_ended(alloc, bytes)?;
-        assert_eq!(rt; got.status, 3);
-        assert_eq!(rt; got.text.as_str(), text);
+        assert!(rt; got.status == 3);
+        assert!(rt; got.text.as_str() == text);
     }
     let long = vec![in alloc; b'\n'; 1_048_577]?;
     let got = route_ended(alloc, long.as_slice())?;
-    assert_eq!(rt; got.status, 3);
-    assert_eq!(rt; got.text.as_str(), "refused route too-long\n");
+    assert!(rt; got.status == 3);
+    assert!(rt; got.text.as_str() == "refused route too-long\n");
     let whole = vec![in alloc; b'\n'; 1_048_576]?;
     let got = route_ended(alloc, whole.as_slice())?;
-    assert_eq!(rt; got.text.as_str(), "refused route form 1\n");
+    assert!(rt; got.text.as_str() == "refused route form 1\n");
     Ok(())
 }
 
 #[test]
 fn words_that_ask_for_nothing_are_answered_by_the_usage(rt: HostRuntime) -> Result<(), Fail> {
     let alloc = rt.alloc();
-    let cases: [&[&str]; 16] = [
+    const CASES: &[&[&str]] = &[
         &[],
         &["route"],
         &["--help"],
@@ -219,12 +216,12 @@ fn words_that_ask_for_nothing_are_answered_by_the_usage(rt: HostRuntime) -> Resu
         &["route", "a", "--tolerance=1", "--tolerance=1"],
         &["route", "-5"],
     ];
-    for words in cases {
+    for &words in CASES {
         let got = run_words(alloc, words, plain(alloc))?;
-        assert_eq!(rt; got.status, 2);
-        assert_eq!(rt;
-            got.text.as_str(),
-            "usage: advice route FILE [--splits N] [--tolerance N]\n       advice plan LINE TRAIN SERVICE [--step N] [--splits N] [--tolerance N]\n       advice check LINE TRAIN SERVICE REPORT [--step N]\n       advice session LINE TRAIN SERVICE EVENTS [--step N] [--splits N] [--tolerance N]\n       advice sample N [--splits N] [--tolerance N]\n"
+        assert!(rt; got.status == 2);
+        assert!(rt;
+            got.text.as_str()
+                == "usage: advice route FILE [--splits N] [--tolerance N]\n       advice plan LINE TRAIN SERVICE [--step N] [--splits N] [--tolerance N]\n       advice check LINE TRAIN SERVICE REPORT [--step N]\n       advice session LINE TRAIN SERVICE EVENTS [--step N] [--splits N] [--tolerance N]\n       advice sample N [--splits N] [--tolerance N]\n"
         );
     }
     Ok(())
@@ -234,30 +231,30 @@ fn words_that_ask_for_nothing_are_answered_by_the_usage(rt: HostRuntime) -> Resu
 fn faults_are_told(rt: HostRuntime) -> Result<(), Fail> {
     let alloc = rt.alloc();
     let absent = run_words(alloc, &["route", "absent"], plain(alloc))?;
-    assert_eq!(rt; absent.status, 6);
-    assert_eq!(rt; absent.text.as_str(), "read fault route\n");
+    assert!(rt; absent.status == 6);
+    assert!(rt; absent.text.as_str() == "read fault route\n");
 
     let route = route_of(alloc, 51_000, 50, &[LEVEL, LEVEL])?;
     let mut failing = plain(alloc);
     put_file(alloc, &mut failing.files, "a.route", route.as_bytes())?;
     failing.failing_fetches.push(1)?;
     let failed = run_words(alloc, &["route", "a.route"], failing)?;
-    assert_eq!(rt; failed.status, 6);
+    assert!(rt; failed.status == 6);
 
     let mut short = plain(alloc);
     put_file(alloc, &mut short.files, "a.route", route.as_bytes())?;
     short.piece = 10;
     short.failing_puts.push(2)?;
     let broken = run_words(alloc, &["route", "a.route"], short)?;
-    assert_eq!(rt; broken.status, 7);
-    assert_eq!(rt; broken.text.as_str(), "advice 1\ng");
+    assert!(rt; broken.status == 7);
+    assert!(rt; broken.text.as_str() == "advice 1\ng");
 
     let mut full = plain(alloc);
     put_file(alloc, &mut full.files, "a.route", route.as_bytes())?;
     full.room = 12;
     let filled = run_words(alloc, &["route", "a.route"], full)?;
-    assert_eq!(rt; filled.status, 7);
-    assert_eq!(rt; filled.text.as_str(), "advice 1\ngap");
+    assert!(rt; filled.status == 7);
+    assert!(rt; filled.text.as_str() == "advice 1\ngap");
     Ok(())
 }
 
@@ -265,7 +262,7 @@ fn faults_are_told(rt: HostRuntime) -> Result<(), Fail> {
 fn options_stand_anywhere(rt: HostRuntime) -> Result<(), Fail> {
     let alloc = rt.alloc();
     let route = route_of(alloc, 51_000, 50, &[LEVEL, LEVEL])?;
-    let cases: [(&[&str], u8); 5] = [
+    const CASES: &[(&[&str], u8)] = &[
         (
             &["route", "a.route", "--tolerance", "1000", "--splits", "0"],
             0,
@@ -285,11 +282,11 @@ fn options_stand_anywhere(rt: HostRuntime) -> Result<(), Fail> {
         (&["route", "--splits=0", "--", "a.route"], 1),
         (&["route", "a.route", "--tolerance=0"], 1),
     ];
-    for (words, status) in cases {
+    for &(words, status) in CASES {
         let mut setting = plain(alloc);
         put_file(alloc, &mut setting.files, "a.route", route.as_bytes())?;
         let got = run_words(alloc, words, setting)?;
-        assert_eq!(rt; got.status, status, "{}", words[1]);
+        assert!(rt; got.status == status, "{}", words[1]);
     }
     Ok(())
 }

@@ -12,7 +12,7 @@ use std::sync::ledger::{Blank, Ledger};
 use step_energy::Steps;
 
 /// What runs left: the status that the last ended with, and what they wrote.
-#[derive(Debug, PartialEq, Eq, Drop)]
+#[derive(Drop)]
 pub struct Ended {
     pub status: u8,
     pub text: String,
@@ -55,38 +55,25 @@ pub fn put_file(
     Ok(())
 }
 
-/// What a run with these words and one box leaves, which offers these speeds.
-fn run_offered<L: Ledger>(
-    alloc: Global,
-    words: &[&str],
-    setting: Setting,
-    offer: &[u16],
-    blank: Blank,
-) -> Result<Ended, AllocError>
-    requires piece { 1 ≤ setting.piece }
-    requires name { blank.name ≡ L.name }
-    requires parts { blank.parts ≡ L.parts }
-    requires some { 0 < L.parts }
-{
-    let mut list = Words::new(alloc);
-    for word in words {
-        list.push(*word)?;
-    }
-    let mut shelf = MemoryShelf::new(alloc, setting.files, setting.failing_fetches);
-    let mut sink = MemorySink::new(alloc, setting.piece, setting.room, setting.failing_puts)?;
-    let mut steps: Steps<L> = Steps::new(blank);
+/// The boxes of a run: one that offers these speeds, where there are some, and else those of the program.
+fn boxes_of(alloc: Global, offer: &[u16]) -> Result<Vec<Box<dyn Proposer>>, AllocError> {
     let mut boxes: Vec<Box<dyn Proposer>> = Vec::new(alloc);
-    boxes.push(Box::new(alloc, Offering::make(alloc, offer)?)?)?;
-    let status = run(alloc, &list, &mut shelf, &mut sink, boxes, &mut steps);
-    let text = String::from_utf8_lossy(alloc, sink.bytes())?;
-    Ok(Ended { status, text })
+    if offer.is_empty() {
+        boxes.push(Box::new(alloc, Dips::new(alloc))?)?;
+        boxes.push(Box::new(alloc, LateCoasting::new(alloc))?)?;
+        boxes.push(Box::new(alloc, EarlyBraking::new(alloc))?)?;
+    } else {
+        boxes.push(Box::new(alloc, Offering::make(alloc, offer)?)?)?;
+    }
+    Ok(boxes)
 }
 
-/// What so many runs with these words leave, one after the other over the same files and the same stream, with a counter of their own.
+/// What so many runs with these words and these boxes leave, one after the other over the same files and the same stream, with a counter of their own.
 fn run_counted<L: Ledger>(
     alloc: Global,
     words: &[&str],
     setting: Setting,
+    offer: &[u16],
     runs: u32,
     blank: Blank,
 ) -> Result<Ended, AllocError>
@@ -104,10 +91,7 @@ fn run_counted<L: Ledger>(
     let mut steps: Steps<L> = Steps::new(blank);
     let mut status = 0;
     for _ in 0..runs {
-        let mut boxes: Vec<Box<dyn Proposer>> = Vec::new(alloc);
-        boxes.push(Box::new(alloc, Dips::new(alloc))?)?;
-        boxes.push(Box::new(alloc, LateCoasting::new(alloc))?)?;
-        boxes.push(Box::new(alloc, EarlyBraking::new(alloc))?)?;
+        let boxes = boxes_of(alloc, offer)?;
         status = run(alloc, &list, &mut shelf, &mut sink, boxes, &mut steps);
     }
     let text = String::from_utf8_lossy(alloc, sink.bytes())?;
@@ -118,22 +102,14 @@ fn run_counted<L: Ledger>(
 pub fn run_words(alloc: Global, words: &[&str], setting: Setting) -> Result<Ended, AllocError>
     requires { 1 ≤ setting.piece }
 {
-    run_counted::<Brand>(alloc, words, setting, 1, Blank::new(1))
+    run_counted::<Brand>(alloc, words, setting, &[], 1, Blank::new(1))
 }
 
 /// What two runs with these words leave, one after the other over the same files and the same stream.
 pub fn run_words_twice(alloc: Global, words: &[&str], setting: Setting) -> Result<Ended, AllocError>
     requires { 1 ≤ setting.piece }
 {
-    run_counted::<Brand>(alloc, words, setting, 2, Blank::new(1))
-}
-
-/// The advice part of a report, which stands before its certificate, and the whole of any other text.
-pub fn advice_part(text: &str) -> &str {
-    match text.split_once("certificate 1\n") {
-        Some((advice, _)) => advice,
-        None => text,
-    }
+    run_counted::<Brand>(alloc, words, setting, &[], 2, Blank::new(1))
 }
 
 /// What a run with these words leaves, with one box that offers these speeds.
@@ -145,5 +121,13 @@ pub fn run_words_offered(
 ) -> Result<Ended, AllocError>
     requires { 1 ≤ setting.piece }
 {
-    run_offered::<Brand>(alloc, words, setting, offer, Blank::new(1))
+    run_counted::<Brand>(alloc, words, setting, offer, 1, Blank::new(1))
+}
+
+/// The advice part of a report, which stands before its certificate, and the whole of any other text.
+pub fn advice_part(text: &str) -> &str {
+    match text.split_once("certificate 1\n") {
+        Some((advice, _)) => advice,
+        None => text,
+    }
 }

@@ -24,11 +24,11 @@ fn a_work_site(rt: HostRuntime) -> Result<(), Fail> {
     let events =
         "restrict works 0 100 700\nadvise\nlift works\nadvise\nlift works\nrestrict works 0 100 700\nrestrict works 0 50 700\nend\n";
     let got = ended(alloc, "0", events, &[])?;
-    assert_eq!(rt; got.status, 0);
+    assert!(rt; got.status == 0);
     let wanted = format!(in alloc;
         "ok\nadvice 1\nlate 200 57144 50000\nok\n{REPORT}refused no-such-name\nok\nrefused name-taken\n"
     )?;
-    assert_eq!(rt; got.text.as_str(), wanted.as_str());
+    assert!(rt; got.text.as_str() == wanted.as_str());
     Ok(())
 }
 
@@ -39,7 +39,7 @@ fn a_train_under_way(rt: HostRuntime) -> Result<(), Fail> {
     let events =
         "at 50 900 10\nrestrict works 0 200 800\nadvise\nlift works\nadvise\nat 40 0 20\nlatest 150 60\nend\n";
     let got = ended(alloc, "2000", events, &[])?;
-    assert_eq!(rt; got.status, 0);
+    assert!(rt; got.status == 0);
     let text = got.text.as_str();
     assert!(rt;
         text.starts_with(
@@ -54,15 +54,15 @@ fn a_train_under_way(rt: HostRuntime) -> Result<(), Fail> {
 #[test]
 fn events_that_are_refused(rt: HostRuntime) -> Result<(), Fail> {
     let alloc = rt.alloc();
-    let cases: [(&str, &[u32], u8, &str); 3] = [
+    const CASES: &[(&str, &[u32], u8, &str)] = &[
         ("advise\nhalt\nend\n", &[], 3, "refused events form 2\n"),
         ("advise\n", &[], 3, "refused events form 2\n"),
         ("end\n", &[4], 6, "read fault events\n"),
     ];
-    for (events, fails, status, text) in cases {
+    for &(events, fails, status, text) in CASES {
         let got = ended(alloc, "0", events, fails)?;
-        assert_eq!(rt; got.status, status);
-        assert_eq!(rt; got.text.as_str(), text);
+        assert!(rt; got.status == status);
+        assert!(rt; got.text.as_str() == text);
     }
     Ok(())
 }

@@ -11,7 +11,7 @@ use std::sync::ledger::{Blank, Ledger};
 use step_energy::Steps;
 
 /// What a run left: the status that it ended with, and what it wrote.
-#[derive(Debug, PartialEq, Eq, Drop)]
+#[derive(Drop)]
 pub struct Ended {
     pub status: u8,
     pub text: String,

@@ -15,5 +15,5 @@ mod reports;
 pub use figures::{Counts, Figures};
 pub use kinds::Phase;
 pub use late_texts::{late_text, no_drive_text};
-pub use phases::phase;
+pub use phases::{phase_name, step_phase};
 pub use reports::{put_advice, report};

@@ -14,38 +14,13 @@ ghost use Rattle.drive_report.specs.Report.{phase_line, phase_lines, time_line, 
 
 use crate::energies::{put_energy, put_regained};
 use crate::figures::{Counts, Figures};
-use crate::kinds::Phase;
 use crate::lines::put_head;
-use crate::phases::phase;
+use crate::phases::{phase_name, step_phase};
 use drive_rules::Rules;
 use dual_certificate::{Certificate, put_certificate};
 use rail_base::{put_line, put_number_line, put_spaced, put_word};
 use rail_specs::Timing;
 use std::alloc::{AllocError, Global};
-
-/// The name of a phase.
-fn phase_name(phase: Phase) -> &'static [u8]
-    ensures { result.now ≡ phase_name phase }
-{
-    match phase {
-        Phase::Hold => b"hold",
-        Phase::Power => b"power",
-        Phase::Coast => b"coast",
-        Phase::Brake => b"brake",
-        Phase::Part => b"part",
-    }
-}
-
-/// The phase of step i of a drive.
-#[tactic(auto, unfolding(crate::specs::Phase::phase_at))]
-fn phase_of_step(rules: &Rules, speeds: &[u16], i: usize) -> Phase
-    requires drive { IsDrive rules.now speeds.now }
-    requires step { i < length rules.now.steps }
-    ensures { result ≡ phase_at rules.now speeds.now i }
-{
-    rules.known_drive(speeds);
-    phase(rules, i, speeds[i], speeds[i + 1])
-}
 
 /// Whether step i is the last of a run of steps of one phase.
 #[tactic(auto, unfolding(crate::specs::Report::ends_run))]
@@ -54,7 +29,7 @@ fn ends_run(rules: &Rules, speeds: &[u16], i: usize) -> bool
     requires step { i < length rules.now.steps }
     ensures { result ≡ ends_run rules.now speeds.now i }
 {
-    i + 1 == rules.steps() || phase_of_step(rules, speeds, i) != phase_of_step(rules, speeds, i + 1)
+    i + 1 == rules.steps() || step_phase(rules, speeds, i) != step_phase(rules, speeds, i + 1)
 }
 
 /// Appends a space and the name of the phase of step i.
@@ -68,7 +43,7 @@ fn put_phase_name(
     requires step { i < length rules.now.steps }
     ensures { OnOk result (out.new.items ≡ out.old.items ++ 32 ∷ phase_name (phase_at rules.now speeds.now i)) }
 {
-    put_word(out, phase_name(phase_of_step(rules, speeds, i)))
+    put_word(out, phase_name(step_phase(rules, speeds, i)))
 }
 
 /// Appends the line of the run of steps of one phase that begins with step `from` and ends with step i.

@@ -9,33 +9,9 @@ ghost use Rattle.run_picture.specs.Curve.{arc, step_arc, phase_arc, phase_curve}
 use crate::axes::Axes;
 use crate::pen::put_point;
 use crate::positions::{place_x, speed_y};
-use drive_report::{Phase, phase};
+use drive_report::{Phase, phase_name, step_phase};
 use drive_rules::Rules;
 use std::alloc::AllocError;
-
-/// The name of a phase.
-fn phase_name(phase: Phase) -> &'static [u8]
-    ensures { result.now ≡ phase_name phase }
-{
-    match phase {
-        Phase::Hold => b"hold",
-        Phase::Power => b"power",
-        Phase::Coast => b"coast",
-        Phase::Brake => b"brake",
-        Phase::Part => b"part",
-    }
-}
-
-/// The phase of step i of a drive.
-#[tactic(auto, unfolding(drive_report::specs::Phase::phase_at))]
-fn phase_of_step(rules: &Rules, speeds: &[u16], i: usize) -> Phase
-    requires drive { IsDrive rules.now speeds.now }
-    requires step { i < length rules.now.steps }
-    ensures { result ≡ phase_at rules.now speeds.now i }
-{
-    rules.known_drive(speeds);
-    phase(rules, i, speeds[i], speeds[i + 1])
-}
 
 /// An end of a step: where it lies in the picture, and the speed there, cm/s.
 #[derive(Clone, Copy)]
@@ -115,7 +91,7 @@ fn put_phase_arc(
     requires step { i < length rules.now.steps }
     ensures { OnOk result (out.new.items ≡ out.old.items ++ phase_arc axes.now rules.now speeds.now phase i) }
 {
-    if phase_of_step(rules, speeds, i) == phase {
+    if step_phase(rules, speeds, i) == phase {
         put_step_arc(out, axes, rules, speeds, i)?;
     }
     Ok(())

@@ -1,36 +1,11 @@
-//! The phases of a drive's steps.
+//! The metres of each phase of a drive.
 
 ghost use Rattle.std.specs.Prelude.{◌≡◌, ℕ, ◌*◌, ◌<◌, ◌≤◌, length};
 ghost use Rattle.rail_specs.specs.Rules.{IsDrive};
-ghost use Rattle.drive_report.specs.Phase.{phase_at, phase_name};
 ghost use Rattle.run_sheet.specs.Phases.{metres_of, phase_metres};
 
-use drive_report::{Phase, phase};
+use drive_report::{Phase, step_phase};
 use drive_rules::Rules;
-
-/// The phase of step i of a drive.
-#[tactic(auto, unfolding(drive_report::specs::Phase::phase_at))]
-pub(crate) fn step_phase(rules: &Rules, speeds: &[u16], i: usize) -> Phase
-    requires drive { IsDrive rules.now speeds.now }
-    requires step { i < length rules.now.steps }
-    ensures { result ≡ phase_at rules.now speeds.now i }
-{
-    rules.known_drive(speeds);
-    phase(rules, i, speeds[i], speeds[i + 1])
-}
-
-/// The name of a phase.
-pub(crate) fn phase_name(phase: Phase) -> &'static [u8]
-    ensures { result.now ≡ phase_name phase }
-{
-    match phase {
-        Phase::Hold => b"hold",
-        Phase::Power => b"power",
-        Phase::Coast => b"coast",
-        Phase::Brake => b"brake",
-        Phase::Part => b"part",
-    }
-}
 
 /// The metres of step i, where it has this phase, and else 0.
 fn metres_of(rules: &Rules, speeds: &[u16], phase: Phase, i: usize) -> u64

@@ -5,7 +5,7 @@ ghost use Rattle.std.specs.Int.RustNames.{unsigned_abs};
 ghost use Rattle.rail_specs.specs.Rules.{IsDrive, work_at};
 ghost use Rattle.run_sheet.specs.Points.{field_names, speed_fields, step_fields, next_fields, place_fields, point_line, points_text};
 
-use crate::phases::{phase_name, step_phase};
+use drive_report::{phase_name, step_phase};
 use drive_rules::Rules;
 use rail_base::{StepCost, put_line};
 use sheet_parts::{arrivals, kilowatt_hours_up, put_decimals, put_natural};

@@ -66,6 +66,11 @@ name-in_utf8 : shown_name (195 ∷ 164 ∷ 194 ∷ 155 ∷ []) ≡ 195 ∷ 164 �
 unfolding is_utf8 chars encode shown_name
 name-in_utf8 = refl
 
+-- U+FFFF behind a letter, and U+FFFD for it
+name-with_no_character : shown_name (65 ∷ 239 ∷ 191 ∷ 191 ∷ []) ≡ 65 ∷ 239 ∷ 191 ∷ 189 ∷ []
+unfolding is_utf8 chars encode shown_name
+name-with_no_character = refl
+
 -- a letter that isn't UTF-8
 name-in_other_bytes : shown_name (65 ∷ 228 ∷ 66 ∷ []) ≡ codes "A?B"
 unfolding is_utf8 chars encode shown_name

@@ -13,9 +13,9 @@ fn is_text(name: &[u8]) -> bool
     std::str::from_utf8(name).is_ok()
 }
 
-/// What is shown of a byte behind another one, in a name that is UTF-8 or isn't.
-fn shown_byte(utf8: bool, before: u8, byte: u8) -> u8
-    ensures { result ≡ shown_byte utf8 before byte }
+/// What is shown of a byte behind two others, in a name that is UTF-8 or isn't.
+fn shown_byte(utf8: bool, earlier: u8, before: u8, byte: u8) -> u8
+    ensures { result ≡ shown_byte utf8 earlier before byte }
 {
     if byte < 32 || byte == 127 {
         b' '
@@ -24,6 +24,8 @@ fn shown_byte(utf8: bool, before: u8, byte: u8) -> u8
     } else if utf8 {
         if before == 194 && byte < 160 {
             160
+        } else if earlier == 239 && before == 191 && byte >= 190 {
+            189
         } else {
             byte
         }
@@ -38,12 +40,13 @@ fn shown_at(utf8: bool, name: &[u8], i: usize) -> u8
     requires within { i < length name.now }
     ensures { result ≡ shown_at name.now i }
 {
+    let earlier = if i < 2 { 0 } else { name[i - 2] };
     let before = if i == 0 { 0 } else { name[i - 1] };
-    shown_byte(utf8, before, name[i])
+    shown_byte(utf8, earlier, before, name[i])
 }
 
-/// A name as it is shown: each control character is a space (a no-break space, of those in two bytes), and of a name that isn't
-/// UTF-8 each byte from 128 on is a question mark.
+/// A name as it is shown: each control character is a space (a no-break space, of those in two bytes), U+FFFE and U+FFFF are U+FFFD,
+/// and of a name that isn't UTF-8 each byte from 128 on is a question mark.
 #[tactic(auto, unfolding(crate::specs::Names::shown_name), using(crate::proofs::FillLemmas::joins))]
 pub fn shown_name(alloc: Global, name: &[u8]) -> Result<Vec<u8>, AllocError>
     ensures { IfOk result (λ shown. shown.items ≡ shown_name name.now) }

@@ -2,7 +2,8 @@ use Rattle.std.proofs.Common.{◌<◌, ◌≡◌, ◌∙◌, List, Some, false, 
 use Rattle.rail_specs.specs.Rules.{Rules}
 use Rattle.line_file.specs.declared.calls.Call.{Call}
 use Rattle.line_file.specs.Shape.{call_at}
-use Rattle.advice_session.specs.Data.{State, IsSession, state_of, with_latest_time}
+use Rattle.rule_changes.specs.Latest.{with_latest_call}
+use Rattle.advice_session.specs.Data.{State, IsSession, state_of}
 use Rattle.advice_session.specs.Faults.{is_too_many}
 use Rattle.advice_session.proofs.LatestLaws.{latest_is, point_found, room_for, timed_session}
 use Rattle.advice_session.proofs.session.Session.set_latest.Goals as goal
@@ -39,7 +40,7 @@ invariant_of-self-2 c =
     let free = subst (λ (s : State). is_too_many s.data_is.service.calls c.args.j ≡ false) (sym c.self.view_is) c.requires.free in
     let p = point_found _ c.args.j c.point_behind-point.result c.items.result.now c.self.invariant there after c.point_behind-point.ensures.value c.items.ensures in
     let i = c.self.inside in
-    let calls : c.set.new.self ≡ with_latest_time i.service.calls c.args.j c.args.seconds = c.set.ensures
+    let calls : c.set.new.self ≡ with_latest_call i.service.calls c.args.j c.args.seconds = c.set.ensures
     ∙ ap (λ (cs : List Call). slice_set i.service.calls c.args.j (record { place = (call_at cs c.args.j).place; dwell = (call_at cs c.args.j).dwell; latest = Some c.args.seconds })) c.items.ensures in
     let value = latest_is c.args.seconds i.clock c.from.result c.from-2.result c.from.ensures c.from-2.ensures c.requires.small c.self.invariant.setup.clock in
     subst (λ (cs : List Call). IsSession (state_of i.line i.train (record { calls = cs }) i.step i.place i.speed i.clock i.names.items i.stretches.items c.set_latest.new.self)) (sym calls)
