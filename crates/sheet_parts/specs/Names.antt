@@ -4,16 +4,21 @@ use Rattle.std.specs.List.{flat_map}
 use Rattle.std.specs.Str.{is_utf8}
 use Rattle.sheet_parts.specs.Fill.{joined_below}
 
--- what is shown of a byte behind two others, in a name that is UTF-8 or isn't: a space for a control character, of those in two bytes a
--- no-break space; U+FFFD for U+FFFE and U+FFFF, which xml doesn't allow; and a question mark for a byte of which nothing is known
+-- what is shown of a byte from 128 on, behind two others, in a name that is UTF-8: a no-break space for a control character of two bytes, and
+-- U+FFFD for U+FFFE and U+FFFF, which xml doesn't allow
+abbrev pub shown_part : ℕ → ℕ → ℕ → ℕ
+shown_part earlier before byte =
+    if before == 194 && nat_lt byte 160 then 160
+    else if earlier == 239 && before == 191 && nat_le 190 byte then 189
+    else byte
+
+-- what is shown of a byte behind two others, in a name that is UTF-8 or isn't: a space for a control character, and a question mark for a byte
+-- of which nothing is known
 abbrev pub shown_byte : Bool → ℕ → ℕ → ℕ → ℕ
 shown_byte utf8 earlier before byte =
     if nat_lt byte 32 || byte == 127 then 32
     else if nat_lt byte 128 then byte
-    else if utf8 then
-        if before == 194 && nat_lt byte 160 then 160
-        else if earlier == 239 && before == 191 && nat_le 190 byte then 189
-        else byte
+    else if utf8 then shown_part earlier before byte
     else 63
 
 -- what is shown of byte i of a name
