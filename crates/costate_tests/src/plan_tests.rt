@@ -45,3 +45,16 @@ fn downhill_the_bound_meets_the_energy(rt: HostRuntime) -> Result<(), Fail> {
     assert!(rt; got.status == 0);
     Ok(())
 }
+
+/// By 300 steps of 10 m the bound comes within 50 per mille of the energy.
+#[test]
+fn many_short_steps(rt: HostRuntime) -> Result<(), Fail> {
+    let line = "kind,from,to,value\nlimit,0,3000,36\ngradient,0,3000,0\n";
+    let service = "place,name,dwell,latest\n0,A,,\n3000,B,,400\n";
+    let files = [("l", line), ("t", TRAIN), ("s", service)];
+    let words = ["plan", "l", "t", "s", "--step", "10", "--tolerance", "50"];
+    let got = run_words(rt.alloc(), &words, &files)?;
+    assert!(rt; got.text.as_str().starts_with("advice 1\ngap met\n"));
+    assert!(rt; got.status == 0);
+    Ok(())
+}

@@ -1,4 +1,4 @@
 use Rattle.advice_tests.proofs.runs.run_words_offered.Given as goal
 
-abbrev pub ghosts-run_offered : goal.ghosts-run_offered
-ghosts-run_offered a = record { name = a.blank.name; parts = a.blank.parts }
+abbrev pub ghosts-run_counted : goal.ghosts-run_counted
+ghosts-run_counted a = record { name = a.blank.name; parts = a.blank.parts }
