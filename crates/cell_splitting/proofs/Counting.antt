@@ -1,10 +1,10 @@
 -- How many cells there are once cells are halved.
-use Rattle.std.proofs.Common.{ℕ, zero, suc, ◌≡◌, ◌<◌, ◌≤◌, ◌+◌, ◌-◌, ◌∙◌, List, [], ◌∷◌, length, map, refl, sym, ap, inl, inr, arith}
+use Rattle.std.proofs.Common.{ℕ, zero, suc, ◌≡◌, ◌<◌, ◌≤◌, ◌+◌, ◌-◌, List, [], ◌∷◌, length, map, ap, inl, inr, arith}
 use Rattle.std.proofs.lemmas.Bool.{cases_lt}
 use Rattle.std.proofs.lemmas.List.Sums.{sum_by-cons}
 use Rattle.bound_specs.specs.declared.Cell.{Cell}
-use Rattle.bound_specs.specs.Cells.{cell_count, lower_half, upper_half}
-use Rattle.cell_splitting.specs.Even.{halved, halvings, AreEven}
+use Rattle.bound_specs.specs.Cells.{cell_count}
+use Rattle.cell_splitting.specs.Even.{halved, halvings}
 use Rattle.cell_splitting.proofs.Halving.{halved-two, halved-one}
 
 -- a point has no fewer

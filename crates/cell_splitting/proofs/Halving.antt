@@ -1,5 +1,5 @@
 -- The cells of a point, halved one after the other.
-use Rattle.std.proofs.Common.{ℕ, suc, ◌≡◌, ◌<◌, ◌≤◌, ◌+◌, ◌∙◌, List, [], ◌∷◌, ◌++◌, Bool, true, false, length, get_or, take, drop, refl, sym, ap, inl, inr, arith, append_assoc, length-append, nat_lt}
+use Rattle.std.proofs.Common.{ℕ, ◌≡◌, ◌<◌, ◌≤◌, ◌+◌, ◌∙◌, List, [], ◌∷◌, ◌++◌, Bool, length, get_or, take, drop, refl, sym, ap, inl, inr, arith, append_assoc, length-append}
 use Rattle.std.specs.Prelude.{if◌then◌else◌}
 use Rattle.std.proofs.lemmas.List.{take_more, drop_more, take_at, drop_at, get_or_at, length-take-le}
 use Rattle.std.proofs.Math.Seq.{drop-length, take-length}

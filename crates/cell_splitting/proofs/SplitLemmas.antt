@@ -5,7 +5,7 @@ use Rattle.std.proofs.lemmas.Bool.{cases_eq, cases_order}
 use Rattle.std.proofs.lemmas.List.{length-set, get_or-set_same, get_or-set_other}
 use Rattle.std.proofs.lemmas.List.Sums.{sum_by-set}
 use Rattle.bound_specs.specs.declared.Cell.{Cell}
-use Rattle.bound_specs.specs.Cells.{no_cell, cells_of, cell_at, cell_count, split_cells, lower_half, upper_half, middle, IsInside, CellsFit}
+use Rattle.bound_specs.specs.Cells.{no_cell, cells_of, cell_at, cell_count, split_cells, IsInside, CellsFit}
 use Rattle.rail_specs.specs.Rules.{Rules}
 use Rattle.speed_cells.specs.Laws.{CanSplit}
 use Rattle.speed_cells.proofs.Fitting.{split_fit}

@@ -2,6 +2,7 @@
 ghost use Rattle.std.specs.Prelude.{◌≡◌, ◌≤◌, ◌<◌, ◌+◌, ◌↔◌, ℕ, OnOk, IfOk, IsTrue, MatchBool, length};
 ghost use Rattle.bound_specs.specs.Cells.{cells_of, cell_count};
 ghost use Rattle.cell_splitting.specs.Splits.{ComeBySplits, IsSplitAt, IsSingleAt};
+ghost use Rattle.cell_splitting.specs.Chosen.{AreTried, IsTried};
 
 use speed_cells::Cells;
 use std::alloc::AllocError;
@@ -48,6 +49,7 @@ fn split_place(
     ensures come { IfOk result (λ made. ComeBySplits cells.old cells.new) }
     ensures count { IfOk result (λ made. cell_count cells.new ≡ cell_count cells.old + made) }
     ensures one { IfOk result (λ made. made ≤ 1) }
+    ensures tried { IfOk result (λ made. IsTried last cells.old cells.new point cell made) }
     ensures behind { IfOk result (λ made. (k : ℕ) → last < k → cells_of cells.new k ≡ cells_of cells.old k) }
 {
     if point > last || !has_cell(cells, point, cell) {
@@ -71,6 +73,7 @@ pub fn split_chosen(
     ensures come { OnOk result (ComeBySplits cells.old cells.new) }
     ensures most { OnOk result (cell_count cells.new ≤ cell_count cells.old + most) }
     ensures behind { OnOk result ((k : ℕ) → last < k → cells_of cells.new k ≡ cells_of cells.old k) }
+    ensures tried { OnOk result (AreTried places.now last most cells.old (length places.now) cells.new) }
 {
     let mut left = most;
     for place in places {

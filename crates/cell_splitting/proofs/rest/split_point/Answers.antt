@@ -1,9 +1,8 @@
-use Rattle.std.proofs.Common.{ℕ, ◌≡◌, ◌<◌, ◌∙◌, refl, arith, length, inl, inr, ap}
-use Rattle.std.specs.Prelude.{MatchBool}
+use Rattle.std.proofs.Common.{◌≡◌, ◌<◌, ◌∙◌, refl, arith, length, inr, ap}
 use Rattle.std.proofs.lemmas.List.Elements.{All-from_get_or}
 use Rattle.bound_specs.specs.declared.Cell.{Cell}
-use Rattle.bound_specs.specs.Cells.{no_cell, cells_of, cell_at}
-use Rattle.cell_splitting.specs.Splits.{unsplit, IsSplitAt}
+use Rattle.bound_specs.specs.Cells.{no_cell, cells_of}
+use Rattle.cell_splitting.specs.Splits.{unsplit}
 use Rattle.cell_splitting.proofs.SplitLemmas.{split_comes, split_points, split_others, split_length, split_before}
 use Rattle.cell_splitting.proofs.rest.split_point.Goals as goal
 

@@ -1,4 +1,4 @@
-use Rattle.std.proofs.Common.{◌≡◌, ◌≢◌, ◌≤◌, ◌<◌, ◌+◌, ◌-◌, ◌*◌, ℕ, length, get_or}
+use Rattle.std.proofs.Common.{◌≡◌, ◌≢◌, ◌≤◌, ◌<◌, ◌+◌, ◌-◌, ◌*◌, ℕ, length}
 use Rattle.bound_specs.specs.Cells.{cells_of, cell_at, cell_count}
 use Rattle.cell_splitting.specs.Splits.{ComeBySplits}
 use Rattle.cell_splitting.proofs.rest.split_point.Given as goal
