@@ -1,5 +1,5 @@
 //! The search for prices.
-ghost use Rattle.std.specs.Prelude.{◌≡◌, ℕ, ◌+◌, ◌<◌, ◌⊎◌, length, IfOk};
+ghost use Rattle.std.specs.Prelude.{◌≡◌, ℕ, ◌+◌, ◌≤◌, ◌<◌, ◌⊎◌, length, IfOk};
 ghost use Rattle.bound_specs.specs.Cells.{cells_of};
 ghost use Rattle.bound_specs.specs.Chains.{IsAtMost};
 ghost use Rattle.bound_specs.specs.Prices.{AreFor};
@@ -90,12 +90,14 @@ fn better(first: Valued, second: Valued) -> Valued
 }
 
 /// How often so many timing points are gone over at most: one alone has its best price after the first time.
-fn most_rounds(timings: usize) -> usize {
+fn most_rounds(timings: usize) -> usize
+    ensures { 1 ≤ result }
+{
     if timings <= 1 { 1 } else { MOST_ROUNDS }
 }
 
 /// Prices no worse than those that these cells have, with the potentials and the chain value: each timing point in turn gets its best
-/// price, until a whole round gains little. Or want of memory.
+/// price, until a whole round gains little. So no other price of the last one has a greater chain value. Or want of memory.
 pub fn improve_prices<C: StepCost>(
     alloc: Global,
     rules: &Rules,
@@ -108,6 +110,7 @@ pub fn improve_prices<C: StepCost>(
     requires start { length (cells_of cells.now 0) ≡ 1 }
     ensures valued { IfOk result (IsValued (C.cost cost.now) rules.now cells.now) }
     ensures no_less { IfOk result (λ found. IsAtMost begun.value found.value) }
+    ensures last { IfOk result (λ found. IsLastBest (C.cost cost.now) rules.now cells.now found.prices found.value) }
 {
     let mut best = begun;
     for _ in 0..most_rounds(rules.timings().len()) {
@@ -133,7 +136,9 @@ fn gone_once<C: StepCost>(
     requires start { length (cells_of cells.now 0) ≡ 1 }
     ensures valued { IfOk result (IsValued (C.cost cost.now) rules.now cells.now) }
     ensures no_less { IfOk result (λ found. IsAtMost begun.value found.value) }
+    ensures last { IfOk result (λ found. IsLastBest (C.cost cost.now) rules.now cells.now found.prices found.value) }
 {
+    rules.known();
     let mut best = begun;
     for timing in 0..rules.timings().len() {
         best = best_valued(alloc, rules, cost, cells, &best.prices, timing)?;
