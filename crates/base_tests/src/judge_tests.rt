@@ -20,7 +20,9 @@ const SLOW_ROUTE: &[u8] =
 
 /// What the rules of a route, and a copy of them, say of speeds, where both say the same.
 fn judged_alike(alloc: Global, text: &[u8], speeds: &[u16]) -> Option<Judged> {
-    let rules = route_rules(alloc, text)?;
+    let Ok(rules) = route_rules(alloc, text) else {
+        return None;
+    };
     let drive = Drive::make(alloc, speeds).ok()?;
     let judged = rules.judge(drive.speeds(), &Traction);
     let copy = rules.copy(alloc).ok()?;
@@ -64,7 +66,7 @@ fn judges_the_route_of_two_steps(rt: HostRuntime) {
 
 #[test]
 fn judges_what_braking_gives_back(rt: HostRuntime) {
-    let Some(rules) = route_rules(rt.alloc(), ROUTE) else {
+    let Ok(rules) = route_rules(rt.alloc(), ROUTE) else {
         panic!(rt; "the route cannot be read");
     };
     assert!(rt; rules.length() == 0);
@@ -119,18 +121,19 @@ fn reads_and_judges_the_joined_rules(rt: HostRuntime) {
 
 #[test]
 fn steps_are_kept_and_idle(rt: HostRuntime) {
-    let Some(rules) = route_rules(rt.alloc(), ROUTE) else {
+    let Ok(rules) = route_rules(rt.alloc(), ROUTE) else {
         panic!(rt; "the route cannot be read");
     };
     assert!(rt; rules.steps() == 2 && rules.top() == 1000);
     // speeds of a step, whether it is kept, whether it is idle
-    for (v0, v1, kept, idle) in [
+    const CASES: &[(u16, u16, bool, bool)] = &[
         (0, 1000, true, false),
         (1000, 0, true, true),
         (1000, 1001, false, false),
         (142, 0, true, true),
         (141, 0, true, false),
-    ] {
+    ];
+    for &(v0, v1, kept, idle) in CASES {
         let found = (rules.step_kept(0, v0, v1), rules.step_idle(0, v0, v1));
         assert!(rt; found == (kept, idle), "from {v0} to {v1}");
     }

@@ -3,13 +3,17 @@ use edge_io::{FetchFault, MemoryShelf, Shelf};
 use std::alloc::{AllocError, Global};
 use std::test::Fail;
 
+/// A file with this name and these bytes.
+fn file(alloc: Global, name: &str, bytes: &[u8]) -> Result<(String, Vec<u8>), AllocError> {
+    Ok((String::from_str(alloc, name)?, bytes.to_vec(alloc)?))
+}
+
 /// A shelf with two files of one name and another file.
 fn shelf_of(alloc: Global, fails: &[u32]) -> Result<MemoryShelf, AllocError> {
     let mut files = Vec::new(alloc);
-    for (name, text) in [("a", "first"), ("a", "second"), ("b", "other")] {
-        let name = String::from_str(alloc, name)?;
-        files.push((name, text.as_bytes().to_vec(alloc)?))?;
-    }
+    files.push(file(alloc, "a", b"first")?)?;
+    files.push(file(alloc, "a", b"second")?)?;
+    files.push(file(alloc, "b", b"other")?)?;
     Ok(MemoryShelf::new(alloc, files, fails.to_vec(alloc)?))
 }
 

@@ -1,13 +1,12 @@
 //! Events of a session on a small example: 200 m of a level line, from one call to another.
 ghost use Rattle.std.specs.Prelude.{◌≡◌, ◌<◌};
 
+use crate::small_rules::{line_of, service_of, train_of};
 use advice_session::{Event, Session, SessionFault};
-use line_file::{read_line, read_service};
 use std::alloc::Global;
 use std::marker::Brand;
 use std::sync::ledger::{Blank, Ledger};
 use step_energy::Steps;
-use train_file::read_train;
 
 const LINE: &[u8] = b"kind,from,to,value\nlimit,0,200,36\ngradient,0,200,0\n";
 
@@ -18,16 +17,13 @@ const SERVICE: &[u8] = b"place,name,dwell,latest\n0,A,,\n200,B,,50\n";
 
 /// The session of the example at its start.
 fn started<L: Ledger>(alloc: Global, steps: &mut Steps<L>) -> Option<Session> {
-    let Ok(line) = read_line(alloc, LINE) else {
-        return None;
-    };
-    let Ok(train) = read_train(alloc, TRAIN) else {
-        return None;
-    };
-    let Ok(service) = read_service(alloc, SERVICE) else {
-        return None;
-    };
-    Session::start(alloc, &line, &train, &service, 100, steps).ok()
+    let line = line_of(alloc, LINE)?;
+    let train = train_of(alloc, TRAIN)?;
+    let service = service_of(alloc, SERVICE)?;
+    match Session::start(alloc, &line, &train, &service, 100, steps) {
+        Ok(session) => Some(session),
+        Err(_) => None,
+    }
 }
 
 /// The limit of the first step, cm/s.

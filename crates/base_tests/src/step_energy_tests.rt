@@ -40,7 +40,7 @@ fn work_of_a_level_step(rt: HostRuntime) {
         panic!(rt; "a level step without drag is refused");
     };
     // speed at the entry, speed at the exit, work
-    let cases = [
+    const WORKS: &[(u16, u16, i128)] = &[
         (0, 800, 6_600_000_000_000),
         (800, 0, -6_200_000_000_000),
         (0, 1000, 10_200_000_000_000),
@@ -48,22 +48,30 @@ fn work_of_a_level_step(rt: HostRuntime) {
         (142, 0, -1_640_000_000),
         (141, 0, 1_190_000_000),
     ];
-    for (v0, v1, work) in cases {
-        assert!(rt; row.work(v0, v1) == work, "from {v0} to {v1}");
-        assert!(rt; row.short_work(v0, v1) as i128 == work, "from {v0} to {v1}");
-        assert!(rt; row.up(v1) - row.down(v0) == work, "from {v0} to {v1}");
+    for &(v0, v1, work) in WORKS {
+        assert!(rt; row.work(v0, v1) == work);
+        assert!(rt; row.short_work(v0, v1) as i128 == work);
+        assert!(rt; row.up(v1) - row.down(v0) == work);
     }
     assert!(rt; row.metres() == 100);
     assert!(rt; row.force_work(51_000) == 10_200_000_000_000);
-    // 1,000 N do 200,000,000,000 over the step
-    for (work, pulled, held) in [
+}
+
+#[test]
+fn forces_over_a_level_step(rt: HostRuntime) {
+    let Some(row) = row(LEVEL) else {
+        panic!(rt; "a level step without drag is refused");
+    };
+    // 1,000 N do 200,000,000,000 over the step: a work, whether they pull it, whether they hold it
+    const FORCES: &[(i64, bool, bool)] = &[
         (200_000_000_000, true, true),
         (200_000_000_001, false, true),
         (-200_000_000_000, true, true),
         (-200_000_000_001, true, false),
-    ] {
-        assert!(rt; row.is_pulled(work, 1000) == pulled, "work {work}");
-        assert!(rt; row.is_held(work, 1000) == held, "work {work}");
+    ];
+    for &(work, pulled, held) in FORCES {
+        assert!(rt; row.is_pulled(work, 1000) == pulled);
+        assert!(rt; row.is_held(work, 1000) == held);
     }
 }
 

@@ -17,6 +17,40 @@ pub struct Ended {
     pub text: String,
 }
 
+/// The words of a run.
+fn words_of(alloc: Global, words: &[&str]) -> Result<Words, AllocError> {
+    let mut list = Words::new(alloc);
+    for word in words {
+        list.push(*word)?;
+    }
+    Ok(list)
+}
+
+/// A file of this name and text.
+fn file(alloc: Global, name: &str, text: &str) -> Result<(String, Vec<u8>), AllocError> {
+    let name = String::from_str(alloc, name)?;
+    let bytes = Vec::from_slice(alloc, text.as_bytes())?;
+    Ok((name, bytes))
+}
+
+/// Files of these names and texts, whose fetches don't fail.
+fn shelf_of(alloc: Global, files: &[(&str, &str)]) -> Result<MemoryShelf, AllocError> {
+    let mut held = Vec::new(alloc);
+    for (name, text) in files {
+        held.push(file(alloc, *name, *text)?)?;
+    }
+    Ok(MemoryShelf::new(alloc, held, Vec::new(alloc)))
+}
+
+/// The boxes of the program.
+fn boxes_of(alloc: Global) -> Result<Vec<Box<dyn Proposer>>, AllocError> {
+    let mut boxes: Vec<Box<dyn Proposer>> = Vec::new(alloc);
+    boxes.push(Box::new(alloc, Dips::new(alloc))?)?;
+    boxes.push(Box::new(alloc, LateCoasting::new(alloc))?)?;
+    boxes.push(Box::new(alloc, EarlyBraking::new(alloc))?)?;
+    Ok(boxes)
+}
+
 /// What a run with these words leaves over files of these names and texts, with a counter of its own.
 fn run_counted<L: Ledger>(
     alloc: Global,
@@ -28,23 +62,11 @@ fn run_counted<L: Ledger>(
     requires parts { blank.parts ≡ L.parts }
     requires some { 0 < L.parts }
 {
-    let mut list = Words::new(alloc);
-    for word in words {
-        list.push(*word)?;
-    }
-    let mut held: Vec<(String, Vec<u8>)> = Vec::new(alloc);
-    for (name, text) in files {
-        let name = String::from_str(alloc, *name)?;
-        let bytes = Vec::from_slice(alloc, text.as_bytes())?;
-        held.push((name, bytes))?;
-    }
-    let mut shelf = MemoryShelf::new(alloc, held, Vec::new(alloc));
+    let list = words_of(alloc, words)?;
+    let mut shelf = shelf_of(alloc, files)?;
     let mut sink = MemorySink::new(alloc, 1_000_000, 1_000_000, Vec::new(alloc))?;
     let mut steps: Steps<L> = Steps::new(blank);
-    let mut boxes: Vec<Box<dyn Proposer>> = Vec::new(alloc);
-    boxes.push(Box::new(alloc, Dips::new(alloc))?)?;
-    boxes.push(Box::new(alloc, LateCoasting::new(alloc))?)?;
-    boxes.push(Box::new(alloc, EarlyBraking::new(alloc))?)?;
+    let boxes = boxes_of(alloc)?;
     let status = run(alloc, &list, &mut shelf, &mut sink, boxes, &mut steps);
     let text = String::from_utf8_lossy(alloc, sink.bytes())?;
     Ok(Ended { status, text })

@@ -1,4 +1,0 @@
-use Rattle.base_tests.proofs.speed_range_tests.read.Given as goal
-
-abbrev pub ghosts-read_with : goal.ghosts-read_with
-ghosts-read_with a = record { name = a.blank.name; parts = a.blank.parts }
